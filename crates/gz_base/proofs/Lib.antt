@@ -1,0 +1,3 @@
+pub mod Told
+pub mod LineLemmas
+pub mod ToldLemmas

@@ -1,0 +1,18 @@
+use Rattle.std.proofs.Common.{◌≡◌, ◌≤◌, ◌+◌, ◌-◌, length, drop, option_map}
+use Rattle.std.specs.Io.KnownBytes.{Keeps}
+use Rattle.gz_model.specs.Lines.{line_len}
+use Rattle.gz_model.specs.Told.{ahead}
+use Rattle.gz_base.proofs.lines.LineReader.next_line.Given as goal
+
+abbrev pub invariant-reads : goal.invariant-reads
+invariant-reads g l =
+    let source = g.S.Source in
+    record {
+      same : Keeps (ahead l.fn.self (source.left l.fn.input)) (ahead l.self (source.left l.input));
+      within : l.searched ≤ length l.self;
+      searched : line_len l.self ≡ option_map (λ n. l.searched + n) (line_len (drop l.searched l.self));
+      faults_stay : source.faults l.fn.input ≤ source.faults l.input;
+    }
+
+abbrev pub decreases-reads : goal.decreases-reads
+decreases-reads g l = l.limit + 1 - length l.self

@@ -1,0 +1,167 @@
+//! The lines of a source.
+ghost use Rattle.std.specs.Prelude.{◌≡◌, ◌≤◌, ◌⊎◌, [], length, take, drop, IfOk, IsErr, Err, IfNone as OnNone, IfSome};
+ghost use Rattle.std.specs.Io.KnownBytes.{IsAtEnd};
+ghost use Rattle.gz_model.specs.Faults.{HasRisen};
+ghost use Rattle.gz_model.specs.Lines.{line_len};
+ghost use Rattle.gz_model.specs.Told.{ahead, TakesLine, HasLongLine, ReadsMore};
+
+use crate::{Failed, Source};
+use gz_label::{Blob, NoMemory};
+use std::alloc::Global;
+use std::marker::Model;
+
+/// How many bytes are read at once.
+const BLOCK: usize = 65_536;
+
+/// The byte that ends a line.
+const NEWLINE: u8 = b'\n';
+
+/// Why there is no next line.
+#[derive(Clone, Copy, Debug, PartialEq, Eq)]
+pub enum LineError {
+    /// The source failed.
+    Fault,
+    /// The line has more bytes than the limit.
+    TooLong,
+    NoMemory,
+}
+
+impl From<NoMemory> for LineError {
+    ghost use Rattle.std.specs.Prelude.{◌≡◌};
+    ghost use Rattle.gz_base.specs.declared.lines.LineError.TheVariants.{NoMemory};
+
+    ghost from_gives = { λ _ e. e ≡ NoMemory };
+
+    fn from(_e: NoMemory) -> LineError {
+        LineError::NoMemory
+    }
+}
+
+impl From<Failed> for LineError {
+    ghost use Rattle.std.specs.Prelude.{◌≡◌};
+    ghost use Rattle.gz_base.specs.declared.lines.LineError.TheVariants.{Fault};
+
+    ghost from_gives = { λ _ e. e ≡ Fault };
+
+    fn from(_e: Failed) -> LineError {
+        LineError::Fault
+    }
+}
+
+/// Takes lines from a source, which it reads in blocks. Contracts see the bytes that were read and not
+/// yet taken. After an error it isn't used again.
+#[derive(Drop)]
+pub struct LineReader {
+    bytes: Blob,
+    start: usize,
+    block: Vec<u8>,
+}
+
+impl Model for LineReader {
+    ghost use Rattle.std.specs.Prelude.{List, ℕ, drop, length, ◌≤◌, ◌<◌};
+
+    ghost Value = { List ℕ };
+
+    ghost view = { λ a. drop a.start a.bytes };
+
+    ghost invariant = { λ a. (a.start ≤ length a.bytes) × (0 < length a.block.items) };
+}
+
+/// How many bytes the first line has, with its newline, where its newline is among the bytes.
+#[tactic(auto, using(crate::proofs::LineLemmas::line_len_within))]
+fn first_line_len(bytes: &[u8]) -> Option<usize>
+    ensures value { result ≡ line_len bytes.now }
+    ensures within { IfSome result (λ n. n ≤ length bytes.now) }
+{
+    for (i, b) in bytes.iter().enumerate() {
+        if *b == NEWLINE {
+            return Some(i + 1);
+        }
+    }
+    None
+}
+
+impl LineReader {
+    /// A reader that has read nothing.
+    pub fn new(alloc: Global) -> Result<LineReader, NoMemory>
+        ensures { IfOk result (λ reader. reader ≡ []) }
+    {
+        Ok(LineReader {
+            bytes: Blob::new(alloc),
+            start: 0,
+            block: vec![in alloc; 0; BLOCK]?,
+        })
+    }
+
+    fn unread(&self) -> &[u8]
+        ensures { result.now ≡ self.now }
+    {
+        &self.bytes.as_slice()[self.start..]
+    }
+
+    /// Puts a block of the source at the end, and answers how many bytes it has. The bytes that were
+    /// taken go, so those of one line are moved to the front at most once.
+    fn read_block<S: Source>(&mut self, alloc: Global, input: &mut S) -> Result<usize, LineError>
+        ensures more { IfOk result (λ n. ReadsMore n self.old self.new (S.left input.old) (S.left input.new)) }
+        ensures end { IfOk result (λ n. n ≡ 0 → IsAtEnd (S.left input.new)) }
+        ensures faults_stay { S.faults input.old ≤ S.faults input.new }
+        ensures fault { result ≡ Err LineError.Fault → HasRisen (S.faults input.old) (S.faults input.new) }
+        ensures short { IsErr result → (result ≡ Err LineError.Fault) ⊎ (result ≡ Err LineError.NoMemory) }
+    {
+        let n = input.read(self.block.as_mut_slice())?;
+        if self.start > 0 {
+            self.bytes = Blob::of(alloc, &self.bytes.as_slice()[self.start..])?;
+            self.start = 0;
+        }
+        self.bytes.append(&self.block[..n])?;
+        Ok(n)
+    }
+
+    fn take_front(&mut self, alloc: Global, n: usize) -> Result<Blob, NoMemory>
+        requires { n ≤ length self.old }
+        ensures { IfOk result (λ front. (front ≡ take n self.old) × (self.new ≡ drop n self.old)) }
+    {
+        let bytes = self.bytes.as_slice();
+        let end = self.start + n;
+        let front = Blob::of(alloc, &bytes[self.start..end])?;
+        self.start = end;
+        Ok(front)
+    }
+
+    /// The next line, with its newline; the last one may lack it. None comes at the end of the input.
+    /// TooLong comes only where the next line has more than `limit` bytes. Time goes with the bytes of
+    /// the line and of the blocks that are read.
+    pub fn next_line<S: Source>(
+        &mut self,
+        alloc: Global,
+        input: &mut S,
+        limit: usize,
+    ) -> Result<Option<Blob>, LineError>
+        ensures end { IfOk result (λ r. OnNone r (IsAtEnd (ahead self.old (S.left input.old)) × IsAtEnd (S.left input.new))) }
+        ensures line { IfOk result (λ r. IfSome r (TakesLine (ahead self.old (S.left input.old)) (ahead self.new (S.left input.new)))) }
+        ensures too_long { result ≡ Err LineError.TooLong → HasLongLine limit (ahead self.old (S.left input.old)) }
+        ensures faults_stay { S.faults input.old ≤ S.faults input.new }
+        ensures fault { result ≡ Err LineError.Fault → HasRisen (S.faults input.old) (S.faults input.new) }
+    {
+        let mut searched = 0;
+        'reads: loop {
+            let bytes = self.unread();
+            let have = bytes.len();
+            match first_line_len(&bytes[searched..]) {
+                Some(n) => return Ok(Some(self.take_front(alloc, searched + n)?)),
+                None => {}
+            }
+            if have > limit {
+                return Err(LineError::TooLong);
+            }
+            searched = have;
+            let n = self.read_block(alloc, input)?;
+            if n == 0 {
+                if have == 0 {
+                    return Ok(None);
+                }
+                return Ok(Some(self.take_front(alloc, have)?));
+            }
+        }
+    }
+}

@@ -1,0 +1,5 @@
+pub mod Faults
+pub mod Lines
+pub mod Prefix
+pub mod Told
+pub mod Steps

@@ -1,0 +1,8 @@
+-- Steps that may fail, one after another.
+use Rattle.std.specs.Prelude.{Option, Some, None, Result, Ok, Err}
+
+infixl 10 ◌>>=◌
+-- the next step, where this one went well
+abbrev pub ◌>>=◌ : {A B E : Type 0} → Result A E → (A → Result B E) → Result B E
+(Ok x) >>= f = f x
+(Err e) >>= f = Err e

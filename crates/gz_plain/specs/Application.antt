@@ -1,0 +1,42 @@
+-- The application `count`: it counts the messages of each key, and puts out each count.
+use Rattle.std.specs.Prelude.{ℕ, ◌+◌, ◌-◌, ◌^◌, min, List, [], ◌∷◌, unwrap_or}
+use Rattle.std.specs.Fmt.{decimal}
+use Rattle.std.specs.Ordering.{nat_cmp}
+use Rattle.std.specs.Cmp.Lexicographic.{slice_cmp}
+use Rattle.std.specs.Map.{lookup}
+use Rattle.std.specs.BTreeMap.{insert_entry, is_at}
+use Rattle.gz_frame.specs.Messages.{Message}
+
+-- the count of each key, in key order
+abbrev pub Counts : Type 0
+Counts = List (List ℕ × ℕ)
+
+abbrev pub count_of : List ℕ → Counts → ℕ
+count_of key counts = unwrap_or (lookup (is_at (slice_cmp nat_cmp key)) counts) 0
+
+-- one more, up to the greatest number of 64 bits
+abbrev pub raised : ℕ → ℕ
+raised n = min (n + 1) (2 ^ 64 - 1)
+
+-- the key's count is raised
+abbrev pub raise : List ℕ → Counts → Counts
+raise key counts = insert_entry (slice_cmp nat_cmp) counts key (raised (count_of key counts))
+
+-- what an application puts out
+pub record Output : Type 0 where
+  pub key : List ℕ
+  pub value : List ℕ
+
+-- what a message puts out: its key, with the new count in decimal
+abbrev pub output_at : Counts → Message → Output
+output_at counts m = record { key = m.key; value = decimal (raised (count_of m.key counts)) }
+
+-- the state after one message after another
+abbrev pub state_after : Counts → List Message → Counts
+state_after counts [] = counts
+state_after counts (m ∷ ms) = state_after (raise m.key counts) ms
+
+-- what one message after another puts out
+abbrev pub outputs_after : Counts → List Message → List Output
+outputs_after counts [] = []
+outputs_after counts (m ∷ ms) = output_at counts m ∷ outputs_after (raise m.key counts) ms

@@ -1,0 +1,3 @@
+pub mod Application
+pub mod Plain
+pub mod ExactlyOnce
