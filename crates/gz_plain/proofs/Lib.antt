@@ -1,0 +1,5 @@
+pub mod Parts
+pub mod Committed
+pub mod Written
+pub mod Histories
+pub mod Writer
