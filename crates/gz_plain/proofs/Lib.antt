@@ -3,3 +3,5 @@ pub mod Committed
 pub mod Written
 pub mod Histories
 pub mod Writer
+pub mod Folds
+pub mod Kept
