@@ -5,3 +5,4 @@ pub mod Histories
 pub mod Writer
 pub mod Folds
 pub mod Kept
+pub mod Outside
