@@ -1,5 +1,5 @@
 -- What a longer history of one producer keeps: its greatest clock, and the messages since its end.
-use Rattle.std.proofs.Common.{◌≡◌, ℕ, ◌+◌, ◌<◌, ◌≤◌, ◌==◌, List, [], ◌∷◌, ◌++◌, length, filter, refl, ap, sym, ◌∙◌, Bool, true, false, cond, Option, Some, None, arith, ◌||◌, nat_lt, nat_le, max}
+use Rattle.std.proofs.Common.{◌≡◌, ℕ, ◌+◌, ◌<◌, ◌≤◌, List, [], ◌∷◌, ◌++◌, length, filter, refl, ap, ◌∙◌, Bool, true, false, cond, Option, Some, None, arith, ◌||◌, nat_lt, nat_le}
 use Rattle.std.specs.Prelude.{⊤}
 use Rattle.std.proofs.lemmas.Grind.{common_steps}
 use Rattle.std.proofs.lemmas.List.Elements.{filter-append}

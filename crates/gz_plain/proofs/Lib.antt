@@ -6,3 +6,5 @@ pub mod Writer
 pub mod Folds
 pub mod Kept
 pub mod Outside
+pub mod Fronts
+pub mod Examples

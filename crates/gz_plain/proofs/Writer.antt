@@ -1,14 +1,14 @@
 -- Readers of what a shard writes accept its lines, each once and in order.
-use Rattle.std.proofs.Common.{◌≡◌, ℕ, ◌+◌, ◌<◌, ◌≤◌, List, [], ◌∷◌, ◌++◌, length, map, filter, refl, ap, sym, ◌∙◌, Option, Some, None, arith, append_assoc}
+use Rattle.std.proofs.Common.{◌≡◌, ℕ, ◌+◌, ◌≤◌, List, [], ◌∷◌, ◌++◌, length, map, refl, ap, ◌∙◌, Option, None, arith, append_assoc}
 use Rattle.gz_frame.specs.Messages.{Message}
-use Rattle.gz_frame.specs.Release.{Release, greater_of, greatest_from, greatest, since_end, of_producer, released, committed_from}
+use Rattle.gz_frame.specs.Release.{Release, greater_of, greatest, since_end, of_producer, released, committed_from}
 use Rattle.gz_frame.specs.Line.{line_of}
 use Rattle.gz_plain.specs.Application.{Output}
-use Rattle.gz_plain.specs.Plain.{lines_from, ack_at, transaction, end_of, committed, messages_of}
+use Rattle.gz_plain.specs.Plain.{lines_from, ack_at, end_of, committed, messages_of}
 use Rattle.gz_plain.specs.ExactlyOnce.{outputs_in}
 use Rattle.gz_plain.proofs.Parts.{messages_two}
 use Rattle.gz_plain.proofs.Committed.{committed_two}
-use Rattle.gz_plain.proofs.Written.{written, emitted, joined, of_lines, same_bytes, of_emitted, outputs_in_emitted, continue_written}
+use Rattle.gz_plain.proofs.Written.{written, emitted, joined, of_lines, same_bytes, of_emitted, outputs_in_emitted}
 use Rattle.gz_plain.proofs.Histories.{IsOf, Below, is_of_two, greatest_two, greatest_more, below_greater, filter_above_lines, rising_lines, filter_upto_lines, since_end_more, since_end_ended}
 
 -- the messages that one line releases
