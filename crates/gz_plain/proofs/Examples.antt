@@ -1,8 +1,8 @@
 -- The definitions at small values.
-use Rattle.std.proofs.Common.{◌≡◌, ℕ, List, [], ◌∷◌, ◌++◌, refl, decimal}
+use Rattle.std.proofs.Common.{◌≡◌, ℕ, List, [], ◌∷◌, refl, decimal}
 use Rattle.gz_frame.specs.Messages.{Message}
-use Rattle.gz_plain.specs.Application.{Output, state_after, outputs_after}
-use Rattle.gz_plain.specs.Plain.{committed, messages_of, transaction}
+use Rattle.gz_plain.specs.Application.{state_after, outputs_after}
+use Rattle.gz_plain.specs.Plain.{committed, messages_of, ack_at, transaction}
 
 abbrev at : List ℕ → ℕ → ℕ → ℕ → Message
 at producer clock flags key = record { producer = producer; clock = clock; flags = flags; key = key ∷ []; value = [] }
@@ -23,5 +23,5 @@ example_counted = refl
 
 -- a transaction of one output: a CONTINUE message and its acknowledgement
 example_transaction : transaction (1 ∷ []) 3 (outputs_after [] (at (2 ∷ []) 5 1 98 ∷ []))
-    ≡ record { producer = 1 ∷ []; clock = 4; flags = 0; key = 98 ∷ []; value = decimal 1 } ∷ at (1 ∷ []) 5 2 0 ∷ []
+    ≡ record { producer = 1 ∷ []; clock = 4; flags = 0; key = 98 ∷ []; value = decimal 1 } ∷ ack_at (1 ∷ []) 5 ∷ []
 example_transaction = refl

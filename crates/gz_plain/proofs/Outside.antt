@@ -1,9 +1,9 @@
 -- Of the OUTSIDE messages of one producer, a loop with a running greatest clock finds exactly the released ones.
-use Rattle.std.proofs.Common.{◌≡◌, ℕ, ◌+◌, ◌<◌, ◌≤◌, List, [], ◌∷◌, ◌++◌, length, map, filter, refl, ap, sym, ◌∙◌, subst, Bool, true, false, cond, Option, Some, None, arith, nat_lt, max}
+use Rattle.std.proofs.Common.{◌≡◌, ℕ, ◌+◌, ◌<◌, ◌≤◌, List, [], ◌∷◌, ◌++◌, length, map, refl, ap, ◌∙◌, subst, Bool, true, false, cond, Option, Some, None, arith, nat_lt, max}
 use Rattle.std.proofs.lemmas.Grind.{common_steps}
 use Rattle.std.specs.Str.{bytes_eq}
-use Rattle.gz_frame.specs.Messages.{Message, is_end, is_ack, is_outside, outside_txn}
-use Rattle.gz_frame.specs.Release.{Release, is_above, greater_of, greatest_from, greatest, of_producer, released, committed_from}
+use Rattle.gz_frame.specs.Messages.{Message, is_end, outside_txn}
+use Rattle.gz_frame.specs.Release.{is_above, greater_of, greatest_from, greatest, of_producer, released, committed_from}
 use Rattle.gz_frame.specs.Line.{line_of}
 use Rattle.gz_plain.specs.Plain.{Plain, untaken, end_of, last_offset, messages_of}
 use Rattle.gz_plain.specs.Outside.{AllOutside, newer_from, newest_from}
