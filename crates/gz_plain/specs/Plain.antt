@@ -1,5 +1,5 @@
 -- A shard over plain lists: its source and its output are lists of messages, and a step takes at once all that was released.
-use Rattle.std.specs.Prelude.{ℕ, ◌+◌, ◌&&◌, List, [], ◌∷◌, ◌++◌, length, map, filter, flat_map, Bool, if◌then◌else◌, nat_lt, nat_le}
+use Rattle.std.specs.Prelude.{ℕ, ◌+◌, ◌&&◌, List, [], ◌∷◌, ◌++◌, length, map, filter, flat_map, Bool, nat_lt, nat_le}
 use Rattle.gz_frame.specs.Messages.{Message, continue_txn, ack_txn}
 use Rattle.gz_frame.specs.Release.{Release, committed_from}
 use Rattle.gz_frame.specs.Line.{line_of}
