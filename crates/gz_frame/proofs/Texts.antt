@@ -3,7 +3,7 @@ use Rattle.std.proofs.Common.{◌≡◌, ℕ, ◌≤◌, ◌<◌, List, length, 
 use Rattle.std.specs.Str.{IsUtf8, is_utf8}
 use Rattle.std.proofs.lemmas.Grind.{common_steps}
 use Rattle.std.proofs.lemmas.Str.{IsUtf8-from_is_utf8, is_utf8-from_IsUtf8}
-use Rattle.gz_frame.specs.Messages.{is_text_within}
+use Rattle.gz_frame.specs.Messages.{is_text_within, is_message}
 
 at_most : (m n : ℕ) → m ≤ n → nat_le m n ≡ true
 at_most m n h = grind (arith, common_steps)
@@ -27,3 +27,9 @@ above m n h = grind (arith, common_steps)
 
 pub is_long_text : (most : ℕ) (bytes : List ℕ) → most < length bytes → is_text_within most bytes ≡ false
 is_long_text most bytes long = long_text (is_utf8 bytes) (nat_le (length bytes) most) (above (length bytes) most long)
+
+-- short texts and a known flag are a message
+pub is_lawful : (producer : List ℕ) (clock flags : ℕ) (key value : List ℕ) → IsUtf8 key → length key ≤ 256 → IsUtf8 value → length value ≤ 4096 → flags ≤ 2
+    → is_message (record { producer = producer; clock = clock; flags = flags; key = key; value = value }) ≡ true
+is_lawful producer clock flags key value valid_key short_key valid_value short_value known =
+    rw (is_text 256 key valid_key short_key, is_text 4096 value valid_value short_value, at_most flags 2 known) refl

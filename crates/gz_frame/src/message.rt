@@ -65,6 +65,19 @@ impl Message {
         Some(Message { parts, key, value })
     }
 
+    /// The message of these parts, key and value, which are known to be short enough, with the flags of
+    /// CONTINUE, OUTSIDE or ACK. It takes no memory.
+    pub fn of(parts: Parts, key: String, value: String) -> Message
+        requires short_key { length (string_bytes key) ≤ 256 }
+        requires short_value { length (string_bytes value) ≤ 4096 }
+        requires known_flags { parts.flags ≤ 2 }
+        ensures { result ≡ record { producer = parts.producer; clock = parts.clock; flags = parts.flags; key = string_bytes key; value = string_bytes value } }
+    {
+        let _key = key.as_str();
+        let _value = value.as_str();
+        Message { parts, key, value }
+    }
+
     /// What its identifier carries.
     pub fn parts(&self) -> Parts
         ensures producer { result.producer ≡ self.now.producer }
@@ -122,6 +135,16 @@ impl Messages {
         ensures err { OnErr result (self.new ≡ self.old) }
     {
         self.items.push(message)?;
+        Ok(())
+    }
+
+    /// Puts all of the messages at the end. After NoMemory nothing has changed.
+    pub fn append(&mut self, more: Messages) -> Result<(), NoMemory>
+        ensures ok { OnOk result (self.new ≡ self.old ++ more) }
+        ensures err { OnErr result (self.new ≡ self.old) }
+    {
+        let mut items = more.items;
+        self.items.append(&mut items)?;
         Ok(())
     }
 

@@ -1,5 +1,5 @@
 //! Bytes.
-ghost use Rattle.std.specs.Prelude.{◌≡◌, ◌++◌, [], length, IfOk, OnOk, OnErr, IsTrue, ◌↔◌};
+ghost use Rattle.std.specs.Prelude.{◌≡◌, ◌++◌, [], length, take, IfOk, OnOk, OnErr, IsTrue, ◌↔◌};
 
 use crate::NoMemory;
 use std::alloc::Global;
@@ -75,6 +75,13 @@ impl Blob {
     {
         self.bytes.extend_from_slice(bytes)?;
         Ok(())
+    }
+
+    /// Keeps the first n bytes.
+    pub fn truncate(&mut self, n: usize)
+        ensures { self.new ≡ take n self.old }
+    {
+        self.bytes.truncate(n);
     }
 
     /// How many bytes there are.

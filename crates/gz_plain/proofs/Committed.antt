@@ -39,8 +39,8 @@ committed_two at (m ∷ xs) ys h =
     let more : List Release = committed_from line_of next (h ++ m ∷ []) xs in
     let end : next + end_of xs ≡ at + end_of (m ∷ xs) = omega (arith, end_of_first m xs) in
     ap (λ (rs : List Release). first ++ rs) (committed_two next xs ys (h ++ m ∷ [])
-        ∙ ap (λ (g : List Message). more ++ committed_from line_of (next + end_of xs) g ys) (append_assoc h (m ∷ []) xs)
-        ∙ ap (λ (n : ℕ). more ++ committed_from line_of n (h ++ m ∷ xs) ys) end)
+    ∙ ap (λ (g : List Message). more ++ committed_from line_of (next + end_of xs) g ys) (append_assoc h (m ∷ []) xs)
+    ∙ ap (λ (n : ℕ). more ++ committed_from line_of n (h ++ m ∷ xs) ys) end)
     ∙ sym (append_assoc first more (committed_from line_of (at + end_of (m ∷ xs)) (h ++ m ∷ xs) ys))
 
 -- messages that one line releases end with it
@@ -56,8 +56,8 @@ committed_within at (m ∷ ms) h =
     let some : 0 < length (line_of m) = line_some m in
     let end : end_of (m ∷ ms) ≡ length (line_of m) + end_of ms = end_of_first m ms in
     within_two at (at + end_of (m ∷ ms)) (map (λ r. record { message = r; end = next }) (released (of_producer m.producer h) m)) (committed_from line_of next (h ++ m ∷ []) ms)
-        (within_line at (at + end_of (m ∷ ms)) next (released (of_producer m.producer h) m) (omega arith) (omega arith))
-        (within_wider next (next + end_of ms) at (at + end_of (m ∷ ms)) (committed_from line_of next (h ++ m ∷ []) ms) (omega arith) (omega arith) (committed_within next ms (h ++ m ∷ [])))
+    (within_line at (at + end_of (m ∷ ms)) next (released (of_producer m.producer h) m) (omega arith) (omega arith))
+    (within_wider next (next + end_of ms) at (at + end_of (m ∷ ms)) (committed_from line_of next (h ++ m ∷ []) ms) (omega arith) (omega arith) (committed_within next ms (h ++ m ∷ [])))
 
 -- the released messages of two lists
 pub committed_messages_two : (seen rest : List Message) → messages_of (committed (seen ++ rest)) ≡ messages_of (committed seen) ++ messages_of (committed_from line_of (end_of seen) seen rest)

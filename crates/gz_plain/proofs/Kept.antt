@@ -83,12 +83,12 @@ untaken_is p seen rest split end =
     let whole : end_of (seen ++ rest) ≡ end_of seen + end_of rest = end_of_two seen rest in
     let low : part (last_offset p) (end_of (seen ++ rest)) first ≡ [] = part_before 0 (0 + end_of seen) (last_offset p) (end_of (seen ++ rest)) first (omega (arith, end)) (committed_within 0 seen []) in
     let bounds : Within (last_offset p) (end_of (seen ++ rest)) more =
-        subst (λ (n : ℕ). Within n (end_of (seen ++ rest)) more) (omega (arith, end)) (subst (λ (n : ℕ). Within at n more) (omega (arith, whole)) (committed_within at rest seen)) in
+    subst (λ (n : ℕ). Within n (end_of (seen ++ rest)) more) (omega (arith, end)) (subst (λ (n : ℕ). Within at n more) (omega (arith, whole)) (committed_within at rest seen)) in
     ap (λ (ms : List Message). part (last_offset p) (end_of ms) (committed ms)) split
     ∙ ap (λ (rs : List Release). part (last_offset p) (end_of (seen ++ rest)) rs) (committed_two 0 seen rest [])
     ∙ part_two (last_offset p) (end_of (seen ++ rest)) first more
     ∙ rw (low, part_inside (last_offset p) (end_of (seen ++ rest)) more bounds)
-        (ap (λ (n : ℕ). messages_of (committed_from line_of n seen rest)) (omega arith))
+    (ap (λ (n : ℕ). messages_of (committed_from line_of n seen rest)) (omega arith))
 
 -- a commit of what is untaken reads all that the source releases
 pub read_order_commit : (producer : List ℕ) (p : Plain) → read_order (commit producer (untaken p) p) ≡ read_order p ++ untaken p
@@ -98,7 +98,7 @@ read_order_commit producer p = order_more 0 p.commits (end_of p.source) (committ
 pub order_whole : (producer : List ℕ) (p : Plain) → Kept producer p → read_order p ++ untaken p ≡ messages_of (committed p.source)
 order_whole producer p k =
     rw (k.order, untaken_is p k.seen k.rest k.split k.seen_end)
-        (sym (committed_messages_two k.seen k.rest) ∙ ap (λ (ms : List Message). messages_of (committed ms)) (sym k.split))
+    (sym (committed_messages_two k.seen k.rest) ∙ ap (λ (ms : List Message). messages_of (committed ms)) (sym k.split))
 
 -- a commit of what is untaken
 pub kept_commit : (producer : List ℕ) (p : Plain) → Kept producer p → Kept producer (commit producer (untaken p) p)

@@ -73,11 +73,11 @@ untaken p = part (last_offset p) (end_of p.source) (committed p.source)
 -- A commit of these messages. Each message that the shard writes has the next clock, so the last clock is their number.
 abbrev pub commit : List ℕ → List Message → Plain → Plain
 commit producer ms p = record {
-    source = p.source;
-    output = p.output ++ transaction producer (length p.output) (outputs_after p.store ms);
-    store = state_after p.store ms;
-    commits = p.commits ++ end_of p.source ∷ [];
-  }
+  source = p.source;
+  output = p.output ++ transaction producer (length p.output) (outputs_after p.store ms);
+  store = state_after p.store ms;
+  commits = p.commits ++ end_of p.source ∷ [];
+}
 
 abbrev pub commit_if : List ℕ → List Message → Plain → Plain
 commit_if producer [] p = p

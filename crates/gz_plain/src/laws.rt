@@ -7,5 +7,4 @@ ghost use Rattle.gz_plain.specs.ExactlyOnce.{ExactlyOnce, Happening, after_all};
 /// order, and readers of the output accept what the application puts out for them, each once and in order.
 pub fn exactly_once()
     ensures { (producer : List ℕ) (hs : List Happening) → ExactlyOnce producer (after_all producer hs start) }
-{
-}
+{}
