@@ -4,6 +4,7 @@ use Rattle.gz_frame.specs.Messages.{Message}
 use Rattle.gz_plain.specs.Application.{state_after, outputs_after}
 use Rattle.gz_plain.specs.Plain.{committed, messages_of, ack_at, transaction}
 
+-- a message with no value
 abbrev at : List ℕ → ℕ → ℕ → ℕ → Message
 at producer clock flags key = record { producer = producer; clock = clock; flags = flags; key = key ∷ []; value = [] }
 

@@ -20,16 +20,20 @@ abbrev pub Below : Option ℕ → ℕ → Type 0
 Below None clock = ⊤
 Below (Some greatest) clock = greatest ≤ clock
 
+-- a smaller number passes the test
 less_than : (m n : ℕ) → m < n → nat_lt m n ≡ true
 less_than m n h = grind (arith, common_steps)
 
+-- a number that is no greater passes the test
 at_most : (m n : ℕ) → m ≤ n → nat_le m n ≡ true
 at_most m n h = grind (arith, common_steps)
 
+-- `false` adds nothing
 or_false : (b : Bool) → (b || false) ≡ b
 or_false true = refl
 or_false false = refl
 
+-- `true` decides
 or_true : (b : Bool) → (b || true) ≡ true
 or_true true = refl
 or_true false = refl
@@ -77,18 +81,22 @@ pub filter_upto_lines : (producer : List ℕ) (last : ℕ) (os : List Output) (c
 filter_upto_lines producer last [] clock l = refl
 filter_upto_lines producer last (o ∷ os) clock l = rw (at_most (last + 1) clock (omega arith), filter_upto_lines producer (last + 1) os clock (omega arith)) refl
 
+-- no line is an end
 no_end_lines : (producer : List ℕ) (last : ℕ) (os : List Output) → list_any is_end (lines_from producer last os) ≡ false
 no_end_lines producer last [] = refl
 no_end_lines producer last (o ∷ os) = no_end_lines producer (last + 1) os
 
+-- a list that an end closes has an end
 any_ended : (xs : List Message) (m : Message) → is_end m ≡ true → list_any is_end (xs ++ m ∷ []) ≡ true
 any_ended [] m end = rw end refl
 any_ended (x ∷ xs) m end = rw (any_ended xs m end) (or_true (is_end x))
 
+-- all lines are since the last end
 since_end_lines : (producer : List ℕ) (last : ℕ) (os : List Output) → since_end (lines_from producer last os) ≡ lines_from producer last os
 since_end_lines producer last [] = refl
 since_end_lines producer last (o ∷ os) = rw (no_end_lines producer (last + 1) os) refl
 
+-- one more message in front, by whether an end is behind it
 since_step : (b e : Bool) (x : Message) (h ls : List Message) → cond b (since_end h) (x ∷ h) ≡ [] → (since_end h ≡ [] → since_end (h ++ ls) ≡ ls) → e ≡ b → cond e (since_end (h ++ ls)) (x ∷ h ++ ls) ≡ ls
 since_step true e x h ls none ih same = rw same (ih none)
 since_step false e x h ls none ih same = cc

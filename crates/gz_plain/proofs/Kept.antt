@@ -125,6 +125,7 @@ kept_commit producer p k =
           ∙ ap (λ (ms : List Message). outputs_after [] ms) (sym order);
     }
 
+-- a commit of what is untaken, where there is any
 kept_if : (producer : List ℕ) (ms : List Message) (p : Plain) → untaken p ≡ ms → Kept producer p → Kept producer (commit_if producer ms p)
 kept_if producer [] p e k = k
 kept_if producer (m ∷ ms) p e k = subst (λ (taken : List Message). Kept producer (commit producer taken p)) e (kept_commit producer p k)
@@ -133,6 +134,7 @@ kept_if producer (m ∷ ms) p e k = subst (λ (taken : List Message). Kept produ
 pub kept_stepped : (producer : List ℕ) (p : Plain) → Kept producer p → Kept producer (stepped producer p)
 kept_stepped producer p k = kept_if producer (untaken p) p refl k
 
+-- the same, for the read order
 reads_if : (producer : List ℕ) (ms : List Message) (p : Plain) → untaken p ≡ ms → Kept producer p → read_order (commit_if producer ms p) ≡ messages_of (committed p.source)
 reads_if producer [] p e k = sym (append-nil (read_order p)) ∙ ap (λ (taken : List Message). read_order p ++ taken) (sym e) ∙ order_whole producer p k
 reads_if producer (m ∷ ms) p e k = subst (λ (taken : List Message). read_order (commit producer taken p) ≡ messages_of (committed p.source)) e (read_order_commit producer p ∙ order_whole producer p k)
@@ -141,6 +143,7 @@ reads_if producer (m ∷ ms) p e k = subst (λ (taken : List Message). read_orde
 pub stepped_reads : (producer : List ℕ) (p : Plain) → Kept producer p → read_order (stepped producer p) ≡ messages_of (committed p.source)
 stepped_reads producer p k = reads_if producer (untaken p) p refl k
 
+-- one happening
 kept_one : (producer : List ℕ) (h : Happening) (p : Plain) → Kept producer p → Kept producer (after_one producer h p)
 kept_one producer (lands ms) p k = kept_landed producer ms p k
 kept_one producer steps p k = kept_stepped producer p k

@@ -39,6 +39,7 @@ of_outside producer (m ∷ ms) a =
 outside_ends : (m : Message) → m.flags ≡ outside_txn → is_end m ≡ true
 outside_ends m e = rw e refl
 
+-- the greater of two clocks, by the test between them
 top_test : (b : Bool) (greatest clock : ℕ) → nat_lt greatest clock ≡ b → Some (max greatest clock) ≡ cond b (Some clock) (Some greatest)
 top_test true greatest clock e =
     let above : greatest < clock = grind (arith, common_steps) in
@@ -70,6 +71,7 @@ released_outside producer seen m a flags of =
     let all : of_producer m.producer seen ≡ seen = rw of (of_outside producer seen a) in
     rw (all, flags) refl
 
+-- one more message in front, by whether it is above the top
 newer_step : (b : Bool) (m : Message) (top : Option ℕ) (rest : List Message) → cond b (m ∷ []) [] ++ newer_from (cond b (Some m.clock) top) rest ≡ cond b (m ∷ newer_from (Some m.clock) rest) (newer_from top rest)
 newer_step true m top rest = refl
 newer_step false m top rest = refl

@@ -24,12 +24,15 @@ pub within_two : (from to : ℕ) (rs ss : List Release) → Within from to rs �
 within_two from to [] ss v w = w
 within_two from to (r ∷ rs) ss v w = (v.0, within_two from to rs ss v.1 w)
 
+-- the test of an end between the offsets
 test_inside : (from to end : ℕ) → from < end → end ≤ to → (nat_lt from end && nat_le end to) ≡ true
 test_inside from to end l h = grind (arith, common_steps)
 
+-- the test of an end at or before the first offset
 test_before : (from to end : ℕ) → end ≤ from → (nat_lt from end && nat_le end to) ≡ false
 test_before from to end l = grind (arith, common_steps)
 
+-- the test of an end behind the second offset
 test_after : (from to end : ℕ) → to < end → (nat_lt from end && nat_le end to) ≡ false
 test_after from to end l = grind (arith, common_steps)
 

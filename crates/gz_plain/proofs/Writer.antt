@@ -23,6 +23,7 @@ committed_lines at h producer last (o ∷ os) =
     let m : Message = record { producer = producer; clock = last + 1; flags = 0; key = o.key; value = o.value } in
     committed_lines (at + length (line_of m)) (h ++ m ∷ []) producer (last + 1) os
 
+-- an acknowledgement is of its producer
 is_of_ack : (producer : List ℕ) (clock : ℕ) → IsOf producer (ack_at producer clock ∷ [])
 is_of_ack producer clock = rw (same_bytes producer) refl
 
