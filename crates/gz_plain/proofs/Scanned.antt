@@ -5,7 +5,7 @@ use Rattle.std.proofs.Math.Seq.{take-length}
 use Rattle.gz_frame.specs.Messages.{Message}
 use Rattle.gz_frame.specs.Line.{line_of}
 use Rattle.gz_frame.specs.Release.{is_above}
-use Rattle.gz_plain.specs.Application.{Output, state_after, outputs_after}
+use Rattle.gz_plain.specs.Application.{Counts, Output, state_after, outputs_after}
 use Rattle.gz_plain.specs.Plain.{Plain, start, landed, stepped, commit, commit_if, untaken, committed, messages_of, end_of, transaction}
 use Rattle.gz_plain.specs.ExactlyOnce.{read_order}
 use Rattle.gz_plain.specs.Outside.{AllOutside, newer_from, newest_from}
@@ -86,12 +86,34 @@ scanned_stepped producer client scanned top p s =
       greatest = running ∙ ap (λ (ms : List Message). newest_from None ms) (sym whole);
     }
 
--- a step that finds nothing untaken changes nothing
-pub step_none : (producer : List ℕ) (p : Plain) (ms : List Message) → untaken p ≡ ms → outputs_after p.store ms ≡ [] → stepped producer p ≡ p
-step_none producer p [] is none = rw is refl
-step_none producer p (m ∷ ms) is none = cc
+-- the code's step, where the scan puts out nothing
+pub none_is : (producer client : List ℕ) (scanned : ℕ) (top : Option ℕ) (p : Plain) (rest : List Message) (store : Counts) (outputs : List Output) → IsScanned producer client scanned top p → rest ≡ drop scanned p.source
+    → store ≡ state_after p.store (newer_from top rest) → outputs ≡ outputs_after p.store (newer_from top rest) → outputs ≡ []
+    → record { source = p.source; output = p.output; store = store; commits = p.commits } ≡ stepped producer p
+none_is producer client scanned top p rest store outputs s is folds puts none =
+    none_from producer p (newer_from top rest) store (untaken_scanned producer client scanned top p s ∙ ap (λ (ms : List Message). newer_from top ms) (sym is)) folds (sym puts ∙ none)
+  where
+    none_from : (producer : List ℕ) (p : Plain) (ms : List Message) (store : Counts) → untaken p ≡ ms → store ≡ state_after p.store ms → outputs_after p.store ms ≡ []
+        → record { source = p.source; output = p.output; store = store; commits = p.commits } ≡ stepped producer p
+    none_from producer p [] store is folds none = rw (is, folds) refl
+    none_from producer p (m ∷ ms) store is folds none = cc
 
--- else it commits
-pub step_some : (producer : List ℕ) (p : Plain) (ms : List Message) → untaken p ≡ ms → (outputs_after p.store ms ≡ [] → ⊥) → stepped producer p ≡ commit producer ms p
-step_some producer p [] is some = absurd (some refl)
-step_some producer p (m ∷ ms) is some = rw is refl
+-- and where it puts out something
+pub some_is : (producer client : List ℕ) (scanned : ℕ) (top : Option ℕ) (p : Plain) (rest : List Message) (store : Counts) (outputs : List Output) (output : List Message) (commits : List ℕ) → IsScanned producer client scanned top p → rest ≡ drop scanned p.source
+    → store ≡ state_after p.store (newer_from top rest) → outputs ≡ outputs_after p.store (newer_from top rest) → (outputs ≡ [] → ⊥)
+    → output ≡ p.output ++ transaction producer (length p.output) outputs → commits ≡ p.commits ++ end_of p.source ∷ []
+    → record { source = p.source; output = output; store = store; commits = commits } ≡ stepped producer p
+some_is producer client scanned top p rest store outputs output commits s is folds puts some writes ends =
+    some_from producer p (newer_from top rest) store outputs output commits (untaken_scanned producer client scanned top p s ∙ ap (λ (ms : List Message). newer_from top ms) (sym is)) folds puts some writes ends
+  where
+    some_from : (producer : List ℕ) (p : Plain) (ms : List Message) (store : Counts) (outputs : List Output) (output : List Message) (commits : List ℕ) → untaken p ≡ ms → store ≡ state_after p.store ms → outputs ≡ outputs_after p.store ms → (outputs ≡ [] → ⊥)
+        → output ≡ p.output ++ transaction producer (length p.output) outputs → commits ≡ p.commits ++ end_of p.source ∷ []
+        → record { source = p.source; output = output; store = store; commits = commits } ≡ stepped producer p
+    some_from producer p [] store outputs output commits is folds puts some writes ends = absurd (some puts)
+    some_from producer p (m ∷ ms) store outputs output commits is folds puts some writes ends = rw (is, folds, writes, puts, ends) refl
+
+-- what holds of a step's shard holds of what the code made, which is that shard
+pub scanned_is : (producer client : List ℕ) (scanned : ℕ) (top newest : Option ℕ) (p q : Plain) (rest : List Message) (end : ℕ) → IsScanned producer client scanned top p → rest ≡ drop scanned p.source → newest ≡ newest_from top rest → end ≡ length p.source → q ≡ stepped producer p
+    → IsScanned producer client end newest q
+scanned_is producer client scanned top newest p q rest end s is newer ends same =
+    rw (newer, is, ends, same) (scanned_stepped producer client scanned top p s)

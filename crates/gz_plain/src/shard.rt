@@ -133,7 +133,8 @@ impl PlainShard {
         ensures ok { OnOk result (self.new ≡ shard_landed messages self.old) }
         ensures err { OnErr result (self.new ≡ self.old) }
     {
-        self.source.append(messages)
+        self.source.append(messages)?;
+        Ok(())
     }
 
     /// The plain step: takes the messages that are released and not yet taken, if there are any, as one
