@@ -1,7 +1,6 @@
 -- An identifier's parts, read back from its bytes.
-use Rattle.std.proofs.Common.{◌≡◌, ℕ, ◌+◌, ◌*◌, ◌/◌, ◌%◌, ◌^◌, ◌<◌, IsTrue, List, [], ◌∷◌, ◌++◌, length, slice_index, refl, arith, take, drop, All, ap, sym, lit<}
-use Rattle.std.specs.Int.{w16, w32, to_be_bytes, from_be_bytes}
-use Rattle.std.proofs.lemmas.Nat.{be_bytes_2, be_bytes_4}
+use Rattle.std.proofs.Common.{◌≡◌, ℕ, ◌+◌, ◌*◌, ◌/◌, ◌%◌, ◌^◌, ◌<◌, IsTrue, List, [], ◌∷◌, ◌++◌, length, slice_index, refl, arith, drop, All, sym, lit<}
+use Rattle.std.specs.Int.{w16, w32, to_be_bytes}
 use Rattle.gz_uuid.specs.Identifier.{identifier, AreParts, is_identifier, producer_of, clock_of, flags_of}
 
 -- an identifier has the form

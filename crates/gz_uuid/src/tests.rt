@@ -47,7 +47,7 @@ fn identifiers_by_their_text(rt: HostRuntime) {
         let id = build(parts.producer, parts.clock, parts.flags);
         let mut buffer = Uuid::encode_buffer();
         assert_eq!(rt; id.hyphenated().encode_lower(&mut buffer), text);
-        assert_eq!(rt; split(id), Some(parts), "of {text}");
+        assert_eq!(rt; split(id), Some(parts));
     }
 }
 
