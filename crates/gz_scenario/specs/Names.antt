@@ -1,7 +1,8 @@
 -- Ids and the names of journals.
-use Rattle.std.specs.Prelude.{ℕ, ◌==◌, ◌&&◌, ◌||◌, List, [], ◌∷◌, length, drop, Bool, true, codes, nat_lt, nat_le, not, if◌then◌else◌}
-use Rattle.std.specs.List.{list_all, starts_with}
+use Rattle.std.specs.Prelude.{ℕ, ◌==◌, ◌&&◌, ◌||◌, List, [], ◌∷◌, length, take, drop, Bool, true, codes, nat_le, not, if◌then◌else◌}
+use Rattle.std.specs.List.{list_all}
 use Rattle.std.specs.Char.{is_ascii_alphanumeric, is_ascii_digit}
+use Rattle.std.specs.Str.{bytes_eq}
 use Rattle.gz_json.specs.Json.{is_among}
 
 -- a letter, a digit, `_` or `-`
@@ -12,9 +13,12 @@ is_id_byte b = is_ascii_alphanumeric b || b == 95 || b == 45
 unfoldable pub is_id : List ℕ → Bool
 is_id text = nat_le 1 (length text) && nat_le (length text) 32 && list_all is_id_byte text
 
+abbrev pub is_number : List ℕ → Bool
+is_number text = nat_le 1 (length text) && list_all is_ascii_digit text
+
 -- the word, and one or more digits behind it
 unfoldable pub is_numbered : List ℕ → List ℕ → Bool
-is_numbered word text = starts_with ◌==◌ text word && nat_lt (length word) (length text) && list_all is_ascii_digit (drop (length word) text)
+is_numbered word text = bytes_eq (take (length word) text) word && is_number (drop (length word) text)
 
 -- an id that is kept for clients of the program's own
 unfoldable pub is_reserved : List ℕ → Bool

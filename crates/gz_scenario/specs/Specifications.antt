@@ -105,6 +105,14 @@ abbrev pub fits_if : List JournalSpec → Option ShardSpec → Bool
 fits_if journals None = true
 fits_if journals (Some shard) = fits journals shard
 
+-- the shard, if there is one, whose journals are among these
+unfoldable pub shard_among : List JournalSpec → Data → Option (Option ShardSpec)
+shard_among journals d = do
+  shards ← list_at (codes "shards") d
+  shard ← shard_of shards
+  _ ← given (fits_if journals shard)
+  Some shard
+
 -- ---- members
 
 unfoldable pub member_in : Data → Option MemberSpec
@@ -136,9 +144,7 @@ specs_in d = do
   verb ← text_at (codes "do") d
   _ ← given (bytes_eq verb (codes "specs"))
   journals ← journals_in d
-  shards ← list_at (codes "shards") d
-  shard ← shard_of shards
-  _ ← given (fits_if journals shard)
+  shard ← shard_among journals d
   brokers ← members_in (codes "brokers") d
   consumers ← members_in (codes "consumers") d
   _ ← given (are_apart brokers consumers)

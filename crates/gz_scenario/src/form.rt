@@ -85,10 +85,12 @@ pub fn read_list<'a>(value: &'a Value, name: &str) -> Result<&'a [Value], FormEr
 }
 
 /// The only item.
+#[tactic(auto, using(crate::proofs::Lists::only_of_many))]
 pub fn read_only(items: &[Value]) -> Result<&Value, FormError>
     ensures { Gives (λ v. view v.now) result (only_item (items_view items.now)) }
 {
     match items {
+        [] => Err(FormError::Unknown),
         [only] => Ok(only),
         _ => Err(FormError::Unknown),
     }

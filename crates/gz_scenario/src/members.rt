@@ -128,6 +128,13 @@ fn are_used(members: &[MemberSpec], others: &[MemberSpec]) -> bool
     false
 }
 
+#[tactic(auto, using(crate::proofs::Distinct::distinct_append))]
+fn all_have_own_ids(brokers: &[MemberSpec], consumers: &[MemberSpec]) -> bool
+    ensures { result ≡ are_distinct (ids_of brokers.now ++ ids_of consumers.now) }
+{
+    have_own_ids(brokers) && have_own_ids(consumers) && !are_used(brokers, consumers)
+}
+
 /// Whether there are at most 64 members in all, no two of one id.
 #[tactic(auto, unfolding(crate::specs::Specifications::are_apart))]
 pub fn stand_apart(brokers: &[MemberSpec], consumers: &[MemberSpec]) -> bool
@@ -136,5 +143,5 @@ pub fn stand_apart(brokers: &[MemberSpec], consumers: &[MemberSpec]) -> bool
     if brokers.len() > MAX_MEMBERS || consumers.len() > MAX_MEMBERS - brokers.len() {
         return false;
     }
-    have_own_ids(brokers) && have_own_ids(consumers) && !are_used(brokers, consumers)
+    all_have_own_ids(brokers, consumers)
 }

@@ -1,6 +1,7 @@
 //! Ids and the names of journals.
-ghost use Rattle.std.specs.Prelude.{◌≡◌, ◌≤◌, length, Some};
+ghost use Rattle.std.specs.Prelude.{◌≡◌, ◌≤◌, length, Some, IsTrue};
 ghost use Rattle.std.specs.List.{list_all};
+ghost use Rattle.std.specs.Char.{is_ascii_digit};
 ghost use Rattle.serde_json.specs.View.{view};
 ghost use Rattle.gz_scenario.specs.Outcomes.{Gives};
 ghost use Rattle.gz_scenario.specs.Names.{is_id, is_numbered, is_reserved, is_journal_name, is_id_byte, is_segment_byte, is_segment, segments};
@@ -30,23 +31,36 @@ fn segment_holds(byte: u8) -> bool
     id_holds(byte) || byte == b'.'
 }
 
+fn are_id_bytes(text: &[u8]) -> bool
+    ensures { result ≡ list_all is_id_byte text.now }
+{
+    text.iter().all(|byte| id_holds(*byte))
+}
+
 /// Whether the text is an id: 1 to 32 letters, digits, `_` or `-`.
 #[tactic(auto, unfolding(crate::specs::Names::is_id))]
 fn names_member(text: &[u8]) -> bool
-    ensures { result ≡ is_id text.now }
+    ensures value { result ≡ is_id text.now }
+    ensures short { IsTrue result → length text.now ≤ 32 }
 {
-    let holds = text.iter().all(|byte| id_holds(*byte));
+    let holds = are_id_bytes(text);
     text.len() >= 1 && text.len() <= MAX_ID && holds
+}
+
+fn are_digits(text: &[u8]) -> bool
+    ensures { result ≡ list_all is_ascii_digit text.now }
+{
+    text.iter().all(|byte| byte.is_ascii_digit())
 }
 
 #[tactic(auto, unfolding(crate::specs::Names::is_numbered))]
 fn is_word_with_number(word: &[u8], text: &[u8]) -> bool
     ensures { result ≡ is_numbered word.now text.now }
 {
-    if !text.starts_with(word) || text.len() <= word.len() {
-        return false;
+    match text.strip_prefix(word) {
+        Some(number) => number.len() >= 1 && are_digits(number),
+        None => false,
     }
-    text[word.len()..].iter().all(|byte| byte.is_ascii_digit())
 }
 
 /// Whether the id is kept for clients of the program's own.
@@ -60,6 +74,7 @@ fn is_kept(text: &[u8]) -> bool
 }
 
 /// Whether the text is one or more segments, with a `/` between each two.
+#[tactic(auto, using(crate::proofs::Paths::goes_on_begins))]
 fn is_path(text: &[u8]) -> bool
     ensures { result ≡ list_all is_segment (segments text.now) }
 {
@@ -84,7 +99,8 @@ fn is_path(text: &[u8]) -> bool
 /// `.` and `-` with a `/` between each two.
 #[tactic(auto, unfolding(crate::specs::Names::is_journal_name))]
 fn names_journal(text: &[u8]) -> bool
-    ensures { result ≡ is_journal_name text.now }
+    ensures value { result ≡ is_journal_name text.now }
+    ensures short { IsTrue result → length text.now ≤ 255 }
 {
     text.len() <= MAX_JOURNAL_NAME && is_path(text)
 }
@@ -123,12 +139,11 @@ pub fn short_name(alloc: Global, text: &str) -> Result<Name, FormError>
 }
 
 /// The id of this name.
-#[tactic(auto, unfolding(crate::specs::Names::is_id))]
 pub fn read_id(alloc: Global, value: &Value, name: &str) -> Result<Name, FormError>
     ensures { Gives (λ id. id) result (id_at name.now (view value.now)) }
 {
     let text = read_text(value, name)?;
-    if text.len() > MAX_ID || !names_member(text.as_bytes()) {
+    if !names_member(text.as_bytes()) {
         return Err(FormError::Unknown);
     }
     let id = name_from(alloc, text)?;
@@ -136,7 +151,6 @@ pub fn read_id(alloc: Global, value: &Value, name: &str) -> Result<Name, FormErr
 }
 
 /// The id of this name, which isn't reserved.
-#[tactic(auto, unfolding(crate::specs::Names::is_id))]
 pub fn read_own_id(alloc: Global, value: &Value, name: &str) -> Result<Name, FormError>
     ensures { Gives (λ id. id) result (own_id_at name.now (view value.now)) }
 {
@@ -148,12 +162,11 @@ pub fn read_own_id(alloc: Global, value: &Value, name: &str) -> Result<Name, For
 }
 
 /// The journal's name of this name.
-#[tactic(auto, unfolding(crate::specs::Names::is_journal_name))]
 pub fn read_journal_name(alloc: Global, value: &Value, name: &str) -> Result<Name, FormError>
     ensures { Gives (λ name. name) result (journal_name_at name.now (view value.now)) }
 {
     let text = read_text(value, name)?;
-    if text.len() > MAX_JOURNAL_NAME || !names_journal(text.as_bytes()) {
+    if !names_journal(text.as_bytes()) {
         return Err(FormError::Unknown);
     }
     let name = name_from(alloc, text)?;

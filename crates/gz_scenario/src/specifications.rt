@@ -5,7 +5,7 @@ ghost use Rattle.gz_json.specs.Json.{is_among};
 ghost use Rattle.gz_scenario.specs.Outcomes.{Gives};
 ghost use Rattle.gz_scenario.specs.Names.{are_distinct};
 ghost use Rattle.gz_scenario.specs.Form.{each};
-ghost use Rattle.gz_scenario.specs.Specifications.{content_of, content_in, journal_in, journals_in, names_of, source_in, output_in, shard_in, shard_of, has_lines, has_log, log_name, fits, fits_if, specs_in, specs_of, is_lines};
+ghost use Rattle.gz_scenario.specs.Specifications.{content_of, content_in, journal_in, journals_in, names_of, source_in, output_in, shard_in, shard_of, has_lines, has_log, log_name, fits, fits_if, shard_among, specs_in, specs_of, is_lines};
 
 use crate::FormError;
 use crate::form::{has_no_more, read_items, read_list, read_only, read_only_text, read_text, read_value, require};
@@ -208,6 +208,7 @@ fn read_shard(alloc: Global, value: &Value) -> Result<ShardSpec, FormError>
     })
 }
 
+#[tactic(auto, using(crate::proofs::Lists::shard_of_many))]
 fn read_one_shard(alloc: Global, values: &[Value]) -> Result<Option<ShardSpec>, FormError>
     ensures { Gives (λ s. s) result (shard_of (items_view values.now)) }
 {
@@ -287,6 +288,21 @@ fn shard_fits(
     }
 }
 
+#[tactic(auto, unfolding(crate::specs::Specifications::shard_among))]
+fn read_shard_among(
+    alloc: Global,
+    journals: &[JournalSpec],
+    value: &Value,
+) -> Result<Option<ShardSpec>, FormError>
+    ensures { Gives (λ s. s) result (shard_among journals.now (view value.now)) }
+{
+    let shards = read_list(value, "shards")?;
+    let shard = read_one_shard(alloc, shards)?;
+    let holds = shard_fits(alloc, journals, &shard)?;
+    require(holds)?;
+    Ok(shard)
+}
+
 #[tactic(auto, unfolding(crate::specs::Specifications::specs_in))]
 fn read_specs_value(alloc: Global, value: &Value) -> Result<Specs, FormError>
     ensures { Gives (λ s. s) result (specs_in (view value.now)) }
@@ -298,10 +314,7 @@ fn read_specs_value(alloc: Global, value: &Value) -> Result<Specs, FormError>
     let verb = read_text(value, "do")?;
     require(verb == "specs")?;
     let journals = read_journals(alloc, value)?;
-    let shards = read_list(value, "shards")?;
-    let shard = read_one_shard(alloc, shards)?;
-    let holds = shard_fits(alloc, journals.as_slice(), &shard)?;
-    require(holds)?;
+    let shard = read_shard_among(alloc, journals.as_slice(), value)?;
     let brokers = read_members(alloc, value, "brokers")?;
     let consumers = read_members(alloc, value, "consumers")?;
     require(stand_apart(brokers.as_slice(), consumers.as_slice()))?;
