@@ -138,11 +138,16 @@ are_apart brokers consumers = nat_le (length brokers + length consumers) 64 && a
 
 -- ---- the line
 
-unfoldable pub specs_in : Data → Option Specs
-specs_in d = do
+-- an object of specifications has these members and no others
+unfoldable pub begins_specs : Data → Option (Unit {0})
+begins_specs d = do
   _ ← given (has_only (codes "do" ∷ codes "journals" ∷ codes "shards" ∷ codes "brokers" ∷ codes "consumers" ∷ []) d)
   verb ← text_at (codes "do") d
-  _ ← given (bytes_eq verb (codes "specs"))
+  given (bytes_eq verb (codes "specs"))
+
+unfoldable pub specs_in : Data → Option Specs
+specs_in d = do
+  _ ← begins_specs d
   journals ← journals_in d
   shard ← shard_among journals d
   brokers ← members_in (codes "brokers") d

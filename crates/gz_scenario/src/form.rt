@@ -109,12 +109,7 @@ pub fn read_only_text<'a>(value: &'a Value, name: &str) -> Result<&'a str, FormE
 }
 
 /// The text of this name, of at most so many bytes.
-pub fn read_short(
-    alloc: Global,
-    value: &Value,
-    name: &str,
-    most: usize,
-) -> Result<Blob, FormError>
+pub fn read_short(alloc: Global, value: &Value, name: &str, most: usize) -> Result<Blob, FormError>
     ensures { Gives (λ text. text) result (short_at most name.now (view value.now)) }
 {
     let text = read_text(value, name)?;

@@ -12,3 +12,6 @@ pub use error::FormError;
 pub use events::{Draft, Drafts, Event, Publish, read_event};
 pub use members::{MemberSpec, Members};
 pub use specifications::{Content, JournalSpec, Journals, ShardSpec, Specs, read_specs};
+
+#[cfg(test)]
+mod tests;

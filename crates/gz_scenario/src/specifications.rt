@@ -5,10 +5,12 @@ ghost use Rattle.gz_json.specs.Json.{is_among};
 ghost use Rattle.gz_scenario.specs.Outcomes.{Gives};
 ghost use Rattle.gz_scenario.specs.Names.{are_distinct};
 ghost use Rattle.gz_scenario.specs.Form.{each};
-ghost use Rattle.gz_scenario.specs.Specifications.{content_of, content_in, journal_in, journals_in, names_of, source_in, output_in, shard_in, shard_of, has_lines, has_log, log_name, fits, fits_if, shard_among, specs_in, specs_of, is_lines};
+ghost use Rattle.gz_scenario.specs.Specifications.{content_of, content_in, journal_in, journals_in, names_of, source_in, output_in, shard_in, shard_of, has_lines, has_log, log_name, fits, fits_if, shard_among, begins_specs, specs_in, specs_of, is_lines};
 
 use crate::FormError;
-use crate::form::{has_no_more, read_items, read_list, read_only, read_only_text, read_text, read_value, require};
+use crate::form::{
+    has_no_more, read_items, read_list, read_only, read_only_text, read_text, read_value, require,
+};
 use crate::members::{Members, read_members, stand_apart};
 use crate::names::{read_id, read_journal_name, read_name, short_name};
 use gz_label::{Blob, Name, NoMemory};
@@ -191,10 +193,7 @@ fn read_output(alloc: Global, labels: &Value) -> Result<Name, FormError>
 fn read_shard(alloc: Global, value: &Value) -> Result<ShardSpec, FormError>
     ensures { Gives (λ s. s) result (shard_in (view value.now)) }
 {
-    require(has_no_more(
-        value,
-        &["id", "sources", "recovery_log_prefix", "labels"],
-    ))?;
+    require(has_no_more(value, &["id", "sources", "recovery_log_prefix", "labels"]))?;
     let id = read_id(alloc, value, "id")?;
     let source = read_source(alloc, value)?;
     let recovery_log_prefix = read_name(alloc, value, "recovery_log_prefix")?;
@@ -303,16 +302,21 @@ fn read_shard_among(
     Ok(shard)
 }
 
+#[tactic(auto, unfolding(crate::specs::Specifications::begins_specs))]
+fn refuse_other(value: &Value) -> Result<(), FormError>
+    ensures { Gives (λ u. u) result (begins_specs (view value.now)) }
+{
+    require(has_no_more(value, &["do", "journals", "shards", "brokers", "consumers"]))?;
+    let verb = read_text(value, "do")?;
+    require(verb == "specs")?;
+    Ok(())
+}
+
 #[tactic(auto, unfolding(crate::specs::Specifications::specs_in))]
 fn read_specs_value(alloc: Global, value: &Value) -> Result<Specs, FormError>
     ensures { Gives (λ s. s) result (specs_in (view value.now)) }
 {
-    require(has_no_more(
-        value,
-        &["do", "journals", "shards", "brokers", "consumers"],
-    ))?;
-    let verb = read_text(value, "do")?;
-    require(verb == "specs")?;
+    refuse_other(value)?;
     let journals = read_journals(alloc, value)?;
     let shard = read_shard_among(alloc, journals.as_slice(), value)?;
     let brokers = read_members(alloc, value, "brokers")?;
