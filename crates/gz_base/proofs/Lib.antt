@@ -1,3 +1,4 @@
 pub mod Told
 pub mod LineLemmas
 pub mod ToldLemmas
+pub mod ReadLemmas

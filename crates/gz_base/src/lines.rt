@@ -1,8 +1,8 @@
 //! The lines of a source.
-ghost use Rattle.std.specs.Prelude.{◌≡◌, ◌≤◌, ◌⊎◌, [], length, take, drop, IfOk, IsErr, Err, IfNone as OnNone, IfSome};
+ghost use Rattle.std.specs.Prelude.{◌≡◌, ◌≢◌, ◌≤◌, ◌++◌, [], length, take, drop, IfOk, OnOk, Err, IfNone as OnNone, IfSome};
 ghost use Rattle.std.specs.Io.KnownBytes.{IsAtEnd};
 ghost use Rattle.gz_model.specs.Faults.{HasRisen};
-ghost use Rattle.gz_model.specs.Lines.{line_len};
+ghost use Rattle.gz_model.specs.Lines.{line_len, IsSearched};
 ghost use Rattle.gz_model.specs.Told.{ahead, TakesLine, HasLongLine, ReadsMore};
 
 use crate::{Failed, Source};
@@ -48,73 +48,61 @@ impl From<Failed> for LineError {
     }
 }
 
-/// Takes lines from a source, which it reads in blocks. Contracts see the bytes that were read and not
-/// yet taken. After an error it isn't used again.
-#[derive(Drop)]
-pub struct LineReader {
-    bytes: Blob,
-    start: usize,
-    block: Vec<u8>,
-}
-
-impl Model for LineReader {
-    ghost use Rattle.std.specs.Prelude.{List, ℕ, drop, length, ◌≤◌, ◌<◌};
-
-    ghost Value = { List ℕ };
-
-    ghost view = { λ a. drop a.start a.bytes };
-
-    ghost invariant = { λ a. (a.start ≤ length a.bytes) × (0 < length a.block.items) };
-}
-
-/// How many bytes the first line has, with its newline, where its newline is among the bytes.
+/// How many bytes the first line has, with its newline, where its newline is among the bytes. The first
+/// `searched` ones have none.
 #[tactic(auto, using(crate::proofs::LineLemmas::line_len_within))]
-fn first_line_len(bytes: &[u8]) -> Option<usize>
+fn first_line_len(bytes: &[u8], searched: usize) -> Option<usize>
+    requires within { searched ≤ length bytes.now }
+    requires none { IsSearched searched bytes.now }
     ensures value { result ≡ line_len bytes.now }
     ensures within { IfSome result (λ n. n ≤ length bytes.now) }
 {
-    for (i, b) in bytes.iter().enumerate() {
-        if *b == NEWLINE {
+    for i in searched..bytes.len() {
+        if bytes[i] == NEWLINE {
             return Some(i + 1);
         }
     }
     None
 }
 
-impl LineReader {
-    /// A reader that has read nothing.
-    pub fn new(alloc: Global) -> Result<LineReader, NoMemory>
-        ensures { IfOk result (λ reader. reader ≡ []) }
-    {
-        Ok(LineReader {
-            bytes: Blob::new(alloc),
-            start: 0,
-            block: vec![in alloc; 0; BLOCK]?,
-        })
-    }
+/// Bytes that were read and not yet taken.
+#[derive(Drop)]
+struct Unread {
+    bytes: Blob,
+    start: usize,
+}
 
-    fn unread(&self) -> &[u8]
+impl Model for Unread {
+    ghost use Rattle.std.specs.Prelude.{List, ℕ, drop, length, ◌≤◌};
+
+    ghost Value = { List ℕ };
+
+    ghost view = { λ a. drop a.start a.bytes };
+
+    ghost invariant = { λ a. a.start ≤ length a.bytes };
+}
+
+impl Unread {
+    fn as_slice(&self) -> &[u8]
         ensures { result.now ≡ self.now }
     {
         &self.bytes.as_slice()[self.start..]
     }
 
-    /// Puts a block of the source at the end, and answers how many bytes it has. The bytes that were
-    /// taken go, so those of one line are moved to the front at most once.
-    fn read_block<S: Source>(&mut self, alloc: Global, input: &mut S) -> Result<usize, LineError>
-        ensures more { IfOk result (λ n. ReadsMore n self.old self.new (S.left input.old) (S.left input.new)) }
-        ensures end { IfOk result (λ n. n ≡ 0 → IsAtEnd (S.left input.new)) }
-        ensures faults_stay { S.faults input.old ≤ S.faults input.new }
-        ensures fault { result ≡ Err LineError.Fault → HasRisen (S.faults input.old) (S.faults input.new) }
-        ensures short { IsErr result → (result ≡ Err LineError.Fault) ⊎ (result ≡ Err LineError.NoMemory) }
+    /// Puts the bytes at the end, and lets go of those that were taken. So the bytes of one line are
+    /// moved to the front at most once.
+    fn append(&mut self, alloc: Global, bytes: &[u8]) -> Result<(), NoMemory>
+        ensures { OnOk result (self.new ≡ self.old ++ bytes.now) }
     {
-        let n = input.read(self.block.as_mut_slice())?;
-        if self.start > 0 {
-            self.bytes = Blob::of(alloc, &self.bytes.as_slice()[self.start..])?;
-            self.start = 0;
+        if self.start == 0 {
+            self.bytes.append(bytes)?;
+            return Ok(());
         }
-        self.bytes.append(&self.block[..n])?;
-        Ok(n)
+        let mut all = Blob::of(alloc, self.as_slice())?;
+        all.append(bytes)?;
+        self.bytes = all;
+        self.start = 0;
+        Ok(())
     }
 
     fn take_front(&mut self, alloc: Global, n: usize) -> Result<Blob, NoMemory>
@@ -126,6 +114,66 @@ impl LineReader {
         let front = Blob::of(alloc, &bytes[self.start..end])?;
         self.start = end;
         Ok(front)
+    }
+}
+
+/// Takes lines from a source, which it reads in blocks. Contracts see the bytes that were read and not
+/// yet taken. After an error it isn't used again.
+#[derive(Drop)]
+pub struct LineReader {
+    unread: Unread,
+    block: Vec<u8>,
+}
+
+impl Model for LineReader {
+    ghost use Rattle.std.specs.Prelude.{List, ℕ, length, ◌<◌};
+
+    ghost Value = { List ℕ };
+
+    ghost view = { λ a. a.unread };
+
+    ghost invariant = { λ a. 0 < length a.block.items };
+}
+
+impl LineReader {
+    /// A reader that has read nothing.
+    pub fn new(alloc: Global) -> Result<LineReader, NoMemory>
+        ensures { IfOk result (λ reader. reader ≡ []) }
+    {
+        Ok(LineReader {
+            unread: Unread {
+                bytes: Blob::new(alloc),
+                start: 0,
+            },
+            block: vec![in alloc; 0; BLOCK]?,
+        })
+    }
+
+    fn unread(&self) -> &[u8]
+        ensures { result.now ≡ self.now }
+    {
+        self.unread.as_slice()
+    }
+
+    /// Puts a block of the source at the end, and answers how many bytes it has: 0 only at the end of
+    /// the input.
+    fn read_block<S: Source>(&mut self, alloc: Global, input: &mut S) -> Result<usize, LineError>
+        ensures more { IfOk result (λ n. ReadsMore n self.old self.new (S.left input.old) (S.left input.new)) }
+        ensures end { IfOk result (λ n. n ≡ 0 → IsAtEnd (S.left input.new)) }
+        ensures faults_stay { S.faults input.old ≤ S.faults input.new }
+        ensures fault { result ≡ Err LineError.Fault → HasRisen (S.faults input.old) (S.faults input.new) }
+        ensures never_long { result ≢ Err LineError.TooLong }
+    {
+        let n = input.read(self.block.as_mut_slice())?;
+        self.unread.append(alloc, &self.block[..n])?;
+        Ok(n)
+    }
+
+    fn take_front(&mut self, alloc: Global, n: usize) -> Result<Blob, NoMemory>
+        requires { n ≤ length self.old }
+        ensures { IfOk result (λ front. (front ≡ take n self.old) × (self.new ≡ drop n self.old)) }
+    {
+        self.unread.take_front(alloc, n)
     }
 
     /// The next line, with its newline; the last one may lack it. None comes at the end of the input.
@@ -147,14 +195,13 @@ impl LineReader {
         'reads: loop {
             let bytes = self.unread();
             let have = bytes.len();
-            match first_line_len(&bytes[searched..]) {
-                Some(n) => return Ok(Some(self.take_front(alloc, searched + n)?)),
-                None => {}
+            match first_line_len(bytes, searched) {
+                Some(n) => return Ok(Some(self.take_front(alloc, n)?)),
+                None => searched = have,
             }
             if have > limit {
                 return Err(LineError::TooLong);
             }
-            searched = have;
             let n = self.read_block(alloc, input)?;
             if n == 0 {
                 if have == 0 {

@@ -1,5 +1,6 @@
 -- Messages, and the flags that they carry.
-use Rattle.std.specs.Prelude.{ℕ, ◌==◌, ◌||◌, List, Bool}
+use Rattle.std.specs.Prelude.{ℕ, ◌==◌, ◌||◌, ◌&&◌, nat_le, List, length, Bool, Option, Some, None, if◌then◌else◌}
+use Rattle.std.specs.Str.{is_utf8}
 
 -- A message: the producer's six octets, its clock and its flags, a key and a value.
 pub record Message : Type 0 where
@@ -30,3 +31,21 @@ is_ack m = m.flags == ack_txn
 -- an ACK or an OUTSIDE message ends what its producer has pending
 abbrev pub is_end : Message → Bool
 is_end m = is_ack m || is_outside m
+
+-- the most bytes of a key and of a value
+abbrev pub max_key : ℕ
+max_key = 256
+
+abbrev pub max_value : ℕ
+max_value = 4096
+
+-- a text of at most so many bytes
+abbrev pub is_text_within : ℕ → List ℕ → Bool
+is_text_within most text = is_utf8 text && nat_le (length text) most
+
+-- a message has a short key and a short value, both texts, and one of the three flags
+abbrev pub is_message : Message → Bool
+is_message m = is_text_within max_key m.key && is_text_within max_value m.value && nat_le m.flags ack_txn
+
+abbrev pub message_if : Message → Option Message
+message_if m = if is_message m then Some m else None

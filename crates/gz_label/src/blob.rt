@@ -1,5 +1,5 @@
 //! Bytes.
-ghost use Rattle.std.specs.Prelude.{◌≡◌, ◌++◌, [], length, IfOk, OnOk, OnErr, IsTrue, ◌↔◌};
+ghost use Rattle.std.specs.Prelude.{◌≡◌, ◌++◌, [], length, take, IfOk, OnOk, OnErr, IsTrue, ◌↔◌};
 
 use crate::NoMemory;
 use std::alloc::Global;
@@ -38,6 +38,20 @@ impl Blob {
         })
     }
 
+    /// Gives the bytes back as a vector. It takes no memory.
+    pub fn into_vec(self) -> Vec<u8>
+        ensures { result.items ≡ self }
+    {
+        self.bytes
+    }
+
+    /// Makes a blob of the vector. It takes no memory.
+    pub fn from_vec(bytes: Vec<u8>) -> Blob
+        ensures { result ≡ bytes.items }
+    {
+        Blob { bytes }
+    }
+
     /// The bytes. It takes no memory.
     pub fn as_slice(&self) -> &[u8]
         ensures { result.now ≡ self.now }
@@ -61,6 +75,13 @@ impl Blob {
     {
         self.bytes.extend_from_slice(bytes)?;
         Ok(())
+    }
+
+    /// Keeps the first n bytes.
+    pub fn truncate(&mut self, n: usize)
+        ensures { self.new ≡ take n self.old }
+    {
+        self.bytes.truncate(n);
     }
 
     /// How many bytes there are.

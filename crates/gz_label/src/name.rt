@@ -79,6 +79,16 @@ impl Name {
         }
     }
 
+    /// The text as a name, where it is known to be short enough.
+    pub fn of(alloc: Global, text: &str) -> Result<Name, NoMemory>
+        requires { length text.now ≤ 1024 }
+        ensures { IfOk result (λ name. name ≡ text.now) }
+    {
+        Ok(Name {
+            text: String::from_str(alloc, text)?,
+        })
+    }
+
     /// The bytes of the text. It takes no memory.
     pub fn as_slice(&self) -> &[u8]
         ensures value { result.now ≡ self.now }

@@ -1,5 +1,5 @@
 -- The lines of a text.
-use Rattle.std.specs.Prelude.{ℕ, ◌==◌, List, [], ◌∷◌, if◌then◌else◌, Option, Some, None, option_map, suc}
+use Rattle.std.specs.Prelude.{◌≡◌, ℕ, ◌+◌, ◌==◌, List, [], ◌∷◌, drop, if◌then◌else◌, Option, Some, None, option_map, suc}
 
 -- the byte that ends a line
 abbrev pub newline : ℕ
@@ -19,3 +19,7 @@ lines_of (b ∷ bs) = if b == newline then (b ∷ []) ∷ lines_of bs else onto 
 abbrev pub line_len : List ℕ → Option ℕ
 line_len [] = None
 line_len (b ∷ bs) = if b == newline then Some 1 else option_map (λ n. suc n) (line_len bs)
+
+-- the first line doesn't end within the first n bytes
+abbrev pub IsSearched : ℕ → List ℕ → Type 0
+IsSearched n bytes = line_len bytes ≡ option_map (λ k. n + k) (line_len (drop n bytes))

@@ -5,6 +5,7 @@ use Rattle.std.specs.Ordering.{nat_cmp}
 use Rattle.std.specs.Cmp.Lexicographic.{slice_cmp}
 use Rattle.std.specs.Map.{lookup}
 use Rattle.std.specs.BTreeMap.{insert_entry, is_at}
+use Rattle.serde_json.specs.Data.{Data, Members, object, number, unsigned, no_members, put}
 use Rattle.gz_frame.specs.Messages.{Message}
 
 -- the count of each key, in key order
@@ -40,3 +41,12 @@ state_after counts (m ∷ ms) = state_after (raise m.key counts) ms
 abbrev pub outputs_after : Counts → List Message → List Output
 outputs_after counts [] = []
 outputs_after counts (m ∷ ms) = output_at counts m ∷ outputs_after (raise m.key counts) ms
+
+-- the counts as the members of an object, put in one after another
+abbrev pub put_all : Counts → Members → Members
+put_all [] members = members
+put_all (e ∷ counts) members = put_all counts (put e.0 (number (unsigned e.1)) members)
+
+-- the counts as JSON: an object with a member for each key
+abbrev pub data_of : Counts → Data
+data_of counts = object (put_all counts no_members)

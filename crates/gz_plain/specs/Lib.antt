@@ -1,3 +1,4 @@
 pub mod Application
 pub mod Plain
 pub mod ExactlyOnce
+pub mod Outside

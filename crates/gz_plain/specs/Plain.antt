@@ -1,5 +1,5 @@
 -- A shard over plain lists: its source and its output are lists of messages, and a step takes at once all that was released.
-use Rattle.std.specs.Prelude.{ℕ, ◌+◌, ◌&&◌, List, [], ◌∷◌, ◌++◌, length, map, filter, flat_map, Bool, if◌then◌else◌, nat_lt, nat_le}
+use Rattle.std.specs.Prelude.{ℕ, ◌+◌, ◌&&◌, List, [], ◌∷◌, ◌++◌, length, map, filter, flat_map, Bool, nat_lt, nat_le}
 use Rattle.gz_frame.specs.Messages.{Message, continue_txn, ack_txn}
 use Rattle.gz_frame.specs.Release.{Release, committed_from}
 use Rattle.gz_frame.specs.Line.{line_of}
@@ -73,11 +73,11 @@ untaken p = part (last_offset p) (end_of p.source) (committed p.source)
 -- A commit of these messages. Each message that the shard writes has the next clock, so the last clock is their number.
 abbrev pub commit : List ℕ → List Message → Plain → Plain
 commit producer ms p = record {
-    source = p.source;
-    output = p.output ++ transaction producer (length p.output) (outputs_after p.store ms);
-    store = state_after p.store ms;
-    commits = p.commits ++ end_of p.source ∷ [];
-  }
+  source = p.source;
+  output = p.output ++ transaction producer (length p.output) (outputs_after p.store ms);
+  store = state_after p.store ms;
+  commits = p.commits ++ end_of p.source ∷ [];
+}
 
 abbrev pub commit_if : List ℕ → List Message → Plain → Plain
 commit_if producer [] p = p

@@ -1,6 +1,6 @@
-use Rattle.std.proofs.Common.{◌≡◌, ◌≤◌, ◌+◌, ◌-◌, length, drop, option_map}
+use Rattle.std.proofs.Common.{◌≤◌, ◌+◌, ◌-◌, length}
 use Rattle.std.specs.Io.KnownBytes.{Keeps}
-use Rattle.gz_model.specs.Lines.{line_len}
+use Rattle.gz_model.specs.Lines.{IsSearched}
 use Rattle.gz_model.specs.Told.{ahead}
 use Rattle.gz_base.proofs.lines.LineReader.next_line.Given as goal
 
@@ -10,7 +10,7 @@ invariant-reads g l =
     record {
       same : Keeps (ahead l.fn.self (source.left l.fn.input)) (ahead l.self (source.left l.input));
       within : l.searched ≤ length l.self;
-      searched : line_len l.self ≡ option_map (λ n. l.searched + n) (line_len (drop l.searched l.self));
+      searched : IsSearched l.searched l.self;
       faults_stay : source.faults l.fn.input ≤ source.faults l.input;
     }
 

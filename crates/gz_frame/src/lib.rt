@@ -1,0 +1,8 @@
+//! Messages, each of which is a line of JSON in a journal.
+#![tactic(auto)]
+
+mod line;
+mod message;
+
+pub use line::print_line;
+pub use message::{Message, Messages};
