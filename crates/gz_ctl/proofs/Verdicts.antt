@@ -1,0 +1,147 @@
+-- What is written of a verdict, and what is answered then.
+use Rattle.std.proofs.Common.{◌≡◌, ◌≢◌, ◌⊎◌, inl, inr, ℕ, List, take, Option, Some, None, Ok, Err, refl, sym, ◌∙◌, subst}
+use Rattle.std.specs.Io.KnownBytes.{Appends, IsAtEnd}
+use Rattle.gz_model.specs.Faults.{HasRisen}
+use Rattle.gz_model.specs.Told.{AppendsFront}
+use Rattle.gz_base.specs.declared.exit.Exit.{Exit}
+use Rattle.gz_base.specs.declared.exit.Exit.TheVariants.{Done, Usage, BadInput, ReadFault, WriteFault, FileFault, PeerFault, Refused, Lost, NoMemory, Mismatch, HistoryFull, SpawnFault, BadPeer}
+use Rattle.gz_world.specs.declared.reply.Refusal.{Refusal}
+use Rattle.gz_world.specs.Worlds.{World}
+use Rattle.gz_world.specs.Report.{report_if}
+use Rattle.gz_world.specs.Run.{outcome_of, refusal_text}
+use Rattle.gz_ctl.specs.Commands.{usage_text, read_fault_text}
+use Rattle.gz_ctl.specs.Answers.{IsVerdict, IsReport, IsRefusal, IsText, WritesReport, WritesRefusal, WritesFront, IsAnswer, HasReport}
+
+-- ---- what is written
+
+report_written : (input old new : Option (List ℕ)) (text : List ℕ) → IsReport input text → Appends old new text → WritesReport input old new
+report_written None old new text is put = tt
+report_written (Some input) old new text is put = (is.0, is.1, rw (← is.2) put)
+
+refusal_written : (input old new : Option (List ℕ)) (text : List ℕ) → IsRefusal input text → Appends old new text → WritesRefusal input old new
+refusal_written None old new text is put = tt
+refusal_written (Some input) old new text is put = (is.0, is.1, rw (← is.2) put)
+
+report_text : (input : Option (List ℕ)) (text : List ℕ) → IsReport input text → IsText input text
+report_text None text is = tt
+report_text (Some input) text is = inl is
+
+refused_text : (input : Option (List ℕ)) (text : List ℕ) → IsRefusal input text → IsText input text
+refused_text None text is = tt
+refused_text (Some input) text is = inr (inl is)
+
+fault_text : (input : Option (List ℕ)) (text : List ℕ) → text ≡ read_fault_text → IsText input text
+fault_text None text is = tt
+fault_text (Some input) text is = inr (inr (inr is))
+
+pub usage_front : (input old new : Option (List ℕ)) → AppendsFront old new usage_text → WritesFront input old new
+usage_front None old new front = (usage_text, tt, front)
+usage_front (Some input) old new front = (usage_text, inr (inr (inl refl)), front)
+
+-- ---- a verdict
+
+pub no_write_fault : (exit : Exit) (text : List ℕ) (left rest : Option (List ℕ)) (faults risen : ℕ) → IsVerdict exit text left rest faults risen → exit ≢ WriteFault
+no_write_fault exit text left rest faults risen verdict is = subst (λ (e : Exit). IsVerdict e text left rest faults risen) is verdict
+
+text_of : (exit : Exit) (text : List ℕ) (left rest : Option (List ℕ)) (faults risen : ℕ) → IsVerdict exit text left rest faults risen → IsText left text
+text_of Done text left rest faults risen v = report_text left text v.0
+text_of Usage text left rest faults risen v = absurd v
+text_of BadInput text left rest faults risen v = refused_text left text v
+text_of ReadFault text left rest faults risen v = fault_text left text v.1
+text_of WriteFault text left rest faults risen v = absurd v
+text_of FileFault text left rest faults risen v = absurd v
+text_of PeerFault text left rest faults risen v = absurd v
+text_of Refused text left rest faults risen v = absurd v
+text_of Lost text left rest faults risen v = absurd v
+text_of NoMemory text left rest faults risen v = absurd v
+text_of Mismatch text left rest faults risen v = absurd v
+text_of HistoryFull text left rest faults risen v = absurd v
+text_of SpawnFault text left rest faults risen v = absurd v
+text_of BadPeer text left rest faults risen v = absurd v
+
+-- the text of the verdict was written in part
+pub verdict_front : (exit : Exit) (text : List ℕ) (left rest old new : Option (List ℕ)) (faults risen : ℕ) → IsVerdict exit text left rest faults risen → AppendsFront old new text → WritesFront left old new
+verdict_front exit text left rest old new faults risen v front = (text, text_of exit text left rest faults risen v, front)
+
+-- an answer that isn't the write fault is the verdict's
+same_exit : (result exit answer : Exit) → (result ≡ exit) ⊎ (result ≡ WriteFault) → result ≡ answer → (answer ≡ WriteFault → ⊥) → exit ≡ answer
+same_exit result exit answer (inl is) said other = sym is ∙ said
+same_exit result exit answer (inr is) said other = absurd (other (sym said ∙ is))
+
+same_result : (result exit answer : Exit) → (result ≡ exit) ⊎ (result ≡ WriteFault) → result ≡ answer → (answer ≡ WriteFault → ⊥) → result ≡ exit
+same_result result exit answer says said other = said ∙ sym (same_exit result exit answer says said other)
+
+pub verdict_done : (result exit : Exit) (text : List ℕ) (left rest old new : Option (List ℕ)) (faults risen : ℕ) → IsVerdict exit text left rest faults risen → (result ≡ exit) ⊎ (result ≡ WriteFault) → (result ≡ exit → Appends old new text)
+    → result ≡ Done → WritesReport left old new × IsAtEnd rest
+verdict_done result exit text left rest old new faults risen v says put is =
+    let other : Done ≡ WriteFault → ⊥ = λ e. cc in
+    let done = subst (λ (e : Exit). IsVerdict e text left rest faults risen) (same_exit result exit Done says is other) v in
+    (report_written left old new text done.0 (put (same_result result exit Done says is other)), done.1)
+
+pub verdict_refused : (result exit : Exit) (text : List ℕ) (left rest old new : Option (List ℕ)) (faults risen : ℕ) → IsVerdict exit text left rest faults risen → (result ≡ exit) ⊎ (result ≡ WriteFault) → (result ≡ exit → Appends old new text)
+    → result ≡ BadInput → WritesRefusal left old new
+verdict_refused result exit text left rest old new faults risen v says put is =
+    let other : BadInput ≡ WriteFault → ⊥ = λ e. cc in
+    let refused = subst (λ (e : Exit). IsVerdict e text left rest faults risen) (same_exit result exit BadInput says is other) v in
+    refusal_written left old new text refused (put (same_result result exit BadInput says is other))
+
+pub verdict_fault : (result exit : Exit) (text : List ℕ) (left rest old new : Option (List ℕ)) (faults risen : ℕ) → IsVerdict exit text left rest faults risen → (result ≡ exit) ⊎ (result ≡ WriteFault) → (result ≡ exit → Appends old new text)
+    → result ≡ ReadFault → HasRisen faults risen × Appends old new read_fault_text
+verdict_fault result exit text left rest old new faults risen v says put is =
+    let other : ReadFault ≡ WriteFault → ⊥ = λ e. cc in
+    let fault = subst (λ (e : Exit). IsVerdict e text left rest faults risen) (same_exit result exit ReadFault says is other) v in
+    (fault.0, rw (← fault.1) (put (same_result result exit ReadFault says is other)))
+
+-- a verdict has no other answer
+pub verdict_other : (result exit answer : Exit) (text : List ℕ) (left rest : Option (List ℕ)) (faults risen : ℕ) → IsVerdict exit text left rest faults risen → (result ≡ exit) ⊎ (result ≡ WriteFault) → result ≡ answer → (answer ≡ WriteFault → ⊥)
+    → IsVerdict answer text left rest faults risen
+verdict_other result exit answer text left rest faults risen v says is other =
+    subst (λ (e : Exit). IsVerdict e text left rest faults risen) (same_exit result exit answer says is other) v
+
+exit_answer : (exit : Exit) (text : List ℕ) (left rest : Option (List ℕ)) (faults risen : ℕ) → IsVerdict exit text left rest faults risen → IsAnswer exit
+exit_answer Done text left rest faults risen v = tt
+exit_answer Usage text left rest faults risen v = tt
+exit_answer BadInput text left rest faults risen v = tt
+exit_answer ReadFault text left rest faults risen v = tt
+exit_answer WriteFault text left rest faults risen v = tt
+exit_answer FileFault text left rest faults risen v = v
+exit_answer PeerFault text left rest faults risen v = v
+exit_answer Refused text left rest faults risen v = v
+exit_answer Lost text left rest faults risen v = v
+exit_answer NoMemory text left rest faults risen v = tt
+exit_answer Mismatch text left rest faults risen v = v
+exit_answer HistoryFull text left rest faults risen v = v
+exit_answer SpawnFault text left rest faults risen v = v
+exit_answer BadPeer text left rest faults risen v = v
+
+-- the verdict's answer, or the write fault, is one that a replay has
+pub verdict_answer : (result exit : Exit) (text : List ℕ) (left rest : Option (List ℕ)) (faults risen : ℕ) → IsVerdict exit text left rest faults risen → (result ≡ exit) ⊎ (result ≡ WriteFault) → IsAnswer result
+verdict_answer result exit text left rest faults risen v (inl is) = rw is (exit_answer exit text left rest faults risen v)
+verdict_answer result exit text left rest faults risen v (inr is) = rw is tt
+
+-- ---- completeness
+
+report_no_refusal : (left : Option (List ℕ)) (text : List ℕ) → HasReport left → IsRefusal left text → ⊥
+report_no_refusal None text has refused = has
+report_no_refusal (Some input) text has refused = let wrong : Ok has.0 ≡ Err refused.0 = sym has.1 ∙ refused.1 in cc
+
+exit_complete : (result exit : Exit) (text : List ℕ) (left rest : Option (List ℕ)) (faults risen : ℕ) (wrote : Type 0) → HasReport left → IsVerdict exit text left rest faults risen → result ≡ exit → (result ≡ Done) ⊎ ((result ≡ NoMemory) ⊎ (HasRisen faults risen ⊎ wrote))
+exit_complete result Done text left rest faults risen wrote has v is = inl is
+exit_complete result Usage text left rest faults risen wrote has v is = absurd v
+exit_complete result BadInput text left rest faults risen wrote has v is = absurd (report_no_refusal left text has v)
+exit_complete result ReadFault text left rest faults risen wrote has v is = inr (inr (inl v.0))
+exit_complete result WriteFault text left rest faults risen wrote has v is = absurd v
+exit_complete result FileFault text left rest faults risen wrote has v is = absurd v
+exit_complete result PeerFault text left rest faults risen wrote has v is = absurd v
+exit_complete result Refused text left rest faults risen wrote has v is = absurd v
+exit_complete result Lost text left rest faults risen wrote has v is = absurd v
+exit_complete result NoMemory text left rest faults risen wrote has v is = absurd v
+exit_complete result Mismatch text left rest faults risen wrote has v is = absurd v
+exit_complete result HistoryFull text left rest faults risen wrote has v is = absurd v
+exit_complete result SpawnFault text left rest faults risen wrote has v is = absurd v
+exit_complete result BadPeer text left rest faults risen wrote has v is = absurd v
+
+pub verdict_complete : (result exit : Exit) (text : List ℕ) (left rest : Option (List ℕ)) (faults risen : ℕ) (wrote : Type 0) → HasReport left → IsVerdict exit text left rest faults risen → (result ≡ exit) ⊎ (result ≡ WriteFault) → (result ≡ WriteFault → wrote)
+    → (result ≡ Done) ⊎ ((result ≡ NoMemory) ⊎ (HasRisen faults risen ⊎ wrote))
+verdict_complete result exit text left rest faults risen wrote has v (inl is) fault = exit_complete result exit text left rest faults risen wrote has v is
+verdict_complete result exit text left rest faults risen wrote has v (inr is) fault = inr (inr (inr (fault is)))

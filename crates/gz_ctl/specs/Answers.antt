@@ -1,0 +1,90 @@
+-- What a run of the command answers and writes.
+use Rattle.std.specs.Prelude.{◌≡◌, ℕ, List, ◌⊎◌, Option, Some, None, Ok, Err, ⊤}
+use Rattle.std.specs.Io.KnownBytes.{Appends, IsAtEnd}
+use Rattle.gz_model.specs.Faults.{HasRisen}
+use Rattle.gz_model.specs.Lines.{lines_of}
+use Rattle.gz_model.specs.Prefix.{IsPrefix}
+use Rattle.gz_model.specs.Told.{AppendsFront}
+use Rattle.gz_plain.specs.ExactlyOnce.{ExactlyOnce}
+use Rattle.gz_base.specs.declared.exit.Exit.{Exit}
+use Rattle.gz_base.specs.declared.exit.Exit.TheVariants.{Done, Usage, BadInput, ReadFault, WriteFault, FileFault, PeerFault, Refused, Lost, NoMemory, Mismatch, HistoryFull, SpawnFault, BadPeer}
+use Rattle.gz_world.specs.declared.reply.Refusal.{Refusal}
+use Rattle.gz_world.specs.Worlds.{World}
+use Rattle.gz_world.specs.Report.{report_if}
+use Rattle.gz_world.specs.Run.{outcome_of, outcome_from, refusal_text}
+use Rattle.gz_ctl.specs.Commands.{usage_text, read_fault_text}
+
+-- the lines of the bytes give a run, and its report was written
+abbrev pub WritesReport : Option (List ℕ) → Option (List ℕ) → Option (List ℕ) → Type 0
+WritesReport None old new = ⊤
+WritesReport (Some input) old new = (w : Option World) × (outcome_of input ≡ Ok w) × Appends old new (report_if w)
+
+-- a line of the bytes is refused, and that was written
+abbrev pub WritesRefusal : Option (List ℕ) → Option (List ℕ) → Option (List ℕ) → Type 0
+WritesRefusal None old new = ⊤
+WritesRefusal (Some input) old new = (refusal : Refusal) × (outcome_of input ≡ Err refusal) × Appends old new (refusal_text refusal)
+
+-- the texts of which a front was written when the writing failed: a report, a refusal, the usage or the read fault
+abbrev pub IsText : Option (List ℕ) → List ℕ → Type 0
+IsText None text = ⊤
+IsText (Some input) text =
+    ((w : Option World) × (outcome_of input ≡ Ok w) × (text ≡ report_if w)) ⊎ (((refusal : Refusal) × (outcome_of input ≡ Err refusal) × (text ≡ refusal_text refusal)) ⊎ ((text ≡ usage_text) ⊎ (text ≡ read_fault_text)))
+
+abbrev pub WritesFront : Option (List ℕ) → Option (List ℕ) → Option (List ℕ) → Type 0
+WritesFront input old new = (text : List ℕ) × IsText input text × AppendsFront old new text
+
+-- The promise: after each front of the lines, the run's shard has taken each committed message of its source once and
+-- in order, and readers of its output accept what the application puts out for them.
+abbrev pub KeepsPromise : Option (List ℕ) → Type 0
+KeepsPromise None = ⊤
+KeepsPromise (Some input) =
+    (front : List (List ℕ)) (w : World) → IsPrefix front (lines_of input) → outcome_from front ≡ Ok (Some w) → ExactlyOnce w.shard.producer w.shard.plain
+
+-- the answers that a replay has
+abbrev pub IsAnswer : Exit → Type 0
+IsAnswer Done = ⊤
+IsAnswer Usage = ⊤
+IsAnswer BadInput = ⊤
+IsAnswer ReadFault = ⊤
+IsAnswer WriteFault = ⊤
+IsAnswer FileFault = ⊥
+IsAnswer PeerFault = ⊥
+IsAnswer Refused = ⊥
+IsAnswer Lost = ⊥
+IsAnswer NoMemory = ⊤
+IsAnswer Mismatch = ⊥
+IsAnswer HistoryFull = ⊥
+IsAnswer SpawnFault = ⊥
+IsAnswer BadPeer = ⊥
+
+-- the bytes, which are told, give a run
+abbrev pub HasReport : Option (List ℕ) → Type 0
+HasReport None = ⊥
+HasReport (Some input) = (w : Option World) × (outcome_of input ≡ Ok w)
+
+-- ---- what a replay comes to before anything is written
+
+abbrev pub IsReport : Option (List ℕ) → List ℕ → Type 0
+IsReport None text = ⊤
+IsReport (Some input) text = (w : Option World) × (outcome_of input ≡ Ok w) × (text ≡ report_if w)
+
+abbrev pub IsRefusal : Option (List ℕ) → List ℕ → Type 0
+IsRefusal None text = ⊤
+IsRefusal (Some input) text = (refusal : Refusal) × (outcome_of input ≡ Err refusal) × (text ≡ refusal_text refusal)
+
+-- how a replay of what is left ends, and with what text
+abbrev pub IsVerdict : Exit → List ℕ → Option (List ℕ) → Option (List ℕ) → ℕ → ℕ → Type 0
+IsVerdict Done text left rest faults risen = IsReport left text × IsAtEnd rest
+IsVerdict Usage text left rest faults risen = ⊥
+IsVerdict BadInput text left rest faults risen = IsRefusal left text
+IsVerdict ReadFault text left rest faults risen = HasRisen faults risen × (text ≡ read_fault_text)
+IsVerdict WriteFault text left rest faults risen = ⊥
+IsVerdict FileFault text left rest faults risen = ⊥
+IsVerdict PeerFault text left rest faults risen = ⊥
+IsVerdict Refused text left rest faults risen = ⊥
+IsVerdict Lost text left rest faults risen = ⊥
+IsVerdict NoMemory text left rest faults risen = ⊥
+IsVerdict Mismatch text left rest faults risen = ⊥
+IsVerdict HistoryFull text left rest faults risen = ⊥
+IsVerdict SpawnFault text left rest faults risen = ⊥
+IsVerdict BadPeer text left rest faults risen = ⊥

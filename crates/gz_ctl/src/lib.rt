@@ -1,0 +1,6 @@
+//! The commands.
+#![tactic(auto)]
+
+mod command;
+
+pub use command::gazctl;

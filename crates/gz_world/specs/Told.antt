@@ -1,0 +1,39 @@
+-- A run over bytes that are told.
+use Rattle.std.specs.Prelude.{◌≡◌, ◌<◌, ℕ, List, [], ◌∷◌, length, Option, Some, None, Result, Ok, Err, ⊤}
+use Rattle.std.specs.Io.KnownBytes.{IsAtEnd}
+use Rattle.gz_model.specs.Lines.{lines_of}
+use Rattle.gz_model.specs.Told.{TakesLine, HasLongLine}
+use Rattle.gz_world.specs.declared.reply.Refusal.{Refusal}
+use Rattle.gz_world.specs.declared.reply.Refusal.TheVariants.{Limit}
+use Rattle.gz_world.specs.declared.replays.ReplayError.{ReplayError}
+use Rattle.gz_world.specs.declared.replays.ReplayError.TheVariants.{Refused, Fault, NoMemory}
+use Rattle.gz_world.specs.Worlds.{World}
+use Rattle.gz_world.specs.Run.{run, outcome_of, max_line}
+
+-- the outcome of the bytes, where they are told
+abbrev pub HasOutcome : Option (List ℕ) → Result (Option World) Refusal → Type 0
+HasOutcome None outcome = ⊤
+HasOutcome (Some bytes) outcome = outcome_of bytes ≡ outcome
+
+-- the lines ahead, from the second one on, make this of a world, where they are told
+abbrev pub RunsTo : Option (List ℕ) → ℕ → World → Result World Refusal → Type 0
+RunsTo None before w outcome = ⊤
+RunsTo (Some ahead) before w outcome = run (lines_of ahead) 2 before w ≡ outcome
+
+-- the run of all that was ahead goes on from here
+abbrev pub GoesOn : Option (List ℕ) → Option (List ℕ) → ℕ → World → ℕ → ℕ → World → Type 0
+GoesOn None now before start number bytes w = ⊤
+GoesOn (Some all) None before start number bytes w = ⊥
+GoesOn (Some all) (Some now) before start number bytes w = run (lines_of all) 2 before start ≡ run (lines_of now) number bytes w
+
+-- what taking a line may refuse: one that is longer than a line may be
+abbrev pub IsLong : Refusal → ℕ → Option (List ℕ) → Type 0
+IsLong refusal number old = (refusal ≡ Limit number) × HasLongLine max_line old
+
+-- the next line is taken from what is ahead, or there is none
+abbrev pub TakesNext : Result (Option (List ℕ)) ReplayError → ℕ → Option (List ℕ) → Option (List ℕ) → Option (List ℕ) → Type 0
+TakesNext (Ok None) number old new left = IsAtEnd old × IsAtEnd left
+TakesNext (Ok (Some line)) number old new left = TakesLine old new line
+TakesNext (Err (Refused refusal)) number old new left = IsLong refusal number old
+TakesNext (Err Fault) number old new left = ⊤
+TakesNext (Err NoMemory) number old new left = ⊤
