@@ -8,9 +8,11 @@ use Rattle.gz_base.specs.declared.exit.Exit.TheVariants.{Done, Usage, BadInput, 
 use Rattle.gz_world.specs.declared.reply.Refusal.{Refusal}
 use Rattle.gz_world.specs.Worlds.{World}
 use Rattle.gz_world.specs.Report.{report_if}
-use Rattle.gz_world.specs.Run.{outcome_of, refusal_text}
+use Rattle.gz_world.specs.Run.{outcome_of, outcome_from, refusal_text}
+use Rattle.gz_world.specs.Told.{HasOutcome}
+use Rattle.gz_plain.specs.ExactlyOnce.{ExactlyOnce}
 use Rattle.gz_ctl.specs.Commands.{usage_text, read_fault_text}
-use Rattle.gz_ctl.specs.Answers.{IsVerdict, IsReport, IsRefusal, IsText, WritesReport, WritesRefusal, WritesFront, IsAnswer, HasReport}
+use Rattle.gz_ctl.specs.Answers.{IsVerdict, IsReport, IsRefusal, IsText, WritesReport, WritesRefusal, WritesFront, IsAnswer, HasReport, KeepsPromise}
 
 -- ---- what is written
 
@@ -93,7 +95,7 @@ verdict_fault result exit text left rest old new faults risen v says put is =
     (fault.0, rw (← fault.1) (put (same_result result exit ReadFault says is other)))
 
 -- a verdict has no other answer
-pub verdict_other : (result exit answer : Exit) (text : List ℕ) (left rest : Option (List ℕ)) (faults risen : ℕ) → IsVerdict exit text left rest faults risen → (result ≡ exit) ⊎ (result ≡ WriteFault) → result ≡ answer → (answer ≡ WriteFault → ⊥)
+verdict_other : (result exit answer : Exit) (text : List ℕ) (left rest : Option (List ℕ)) (faults risen : ℕ) → IsVerdict exit text left rest faults risen → (result ≡ exit) ⊎ (result ≡ WriteFault) → result ≡ answer → (answer ≡ WriteFault → ⊥)
     → IsVerdict answer text left rest faults risen
 verdict_other result exit answer text left rest faults risen v says is other =
     subst (λ (e : Exit). IsVerdict e text left rest faults risen) (same_exit result exit answer says is other) v
@@ -145,3 +147,25 @@ pub verdict_complete : (result exit : Exit) (text : List ℕ) (left rest : Optio
     → (result ≡ Done) ⊎ ((result ≡ NoMemory) ⊎ (HasRisen faults risen ⊎ wrote))
 verdict_complete result exit text left rest faults risen wrote has v (inl is) fault = exit_complete result exit text left rest faults risen wrote has v is
 verdict_complete result exit text left rest faults risen wrote has v (inr is) fault = inr (inr (inr (fault is)))
+
+-- ---- what a replay comes to
+
+pub refusal_is : (left : Option (List ℕ)) (refusal : Refusal) (text : List ℕ) → HasOutcome left (Err refusal) → text ≡ refusal_text refusal → IsRefusal left text
+refusal_is None refusal text outcome is = tt
+refusal_is (Some input) refusal text outcome is = (refusal, outcome, is)
+
+-- the promise of every run is that of this input's
+pub promise_kept : ((lines : List (List ℕ)) (w : World) → outcome_from lines ≡ Ok (Some w) → ExactlyOnce w.shard.producer w.shard.plain) → (left : Option (List ℕ)) → KeepsPromise left
+promise_kept law None = tt
+promise_kept law (Some input) = λ front w begins gives. law front w gives
+
+-- a verdict is neither of these
+pub verdict_no_usage : (result exit : Exit) (text : List ℕ) (left rest : Option (List ℕ)) (faults risen : ℕ) → IsVerdict exit text left rest faults risen → (result ≡ exit) ⊎ (result ≡ WriteFault) → result ≡ Usage → ⊥
+verdict_no_usage result exit text left rest faults risen v says is =
+    let other : Usage ≡ WriteFault → ⊥ = λ e. cc in
+    verdict_other result exit Usage text left rest faults risen v says is other
+
+pub verdict_no_want : (result exit : Exit) (text : List ℕ) (left rest : Option (List ℕ)) (faults risen : ℕ) → IsVerdict exit text left rest faults risen → (result ≡ exit) ⊎ (result ≡ WriteFault) → result ≡ NoMemory → ⊥
+verdict_no_want result exit text left rest faults risen v says is =
+    let other : NoMemory ≡ WriteFault → ⊥ = λ e. cc in
+    verdict_other result exit NoMemory text left rest faults risen v says is other

@@ -1,0 +1,7 @@
+use Rattle.std.proofs.Common.{rules}
+use Rattle.gz_ctl.proofs.Verdicts.{refusal_is}
+use Rattle.gz_ctl.proofs.command.judge.Goals as goal
+
+pub returns-in_ok-text-in-Err-Refused-clause-verdict : goal.returns-in_ok-text-in-Err-Refused-clause-verdict
+returns-in_ok-text-in-Err-Refused-clause-verdict g c =
+    refusal_is _ c.in-Err-Refused.refusal _ (c.in-Err-Refused.ensures.refused c.in-Err-Refused.refusal (search rules)) c.in_ok-text-in-Err-Refused.ensures
