@@ -9,23 +9,10 @@ use Rattle.gz_plain.specs.Plain.{Plain, start, landed, stepped, commit, commit_i
 use Rattle.gz_plain.specs.ExactlyOnce.{ExactlyOnce, NeverFall, read_order, outputs_in, Happening, lands, steps, after_one, after_all}
 use Rattle.gz_plain.proofs.Parts.{Within, part_inside, part_before, part_two, order_same, order_more, last_more, never_fall_more}
 use Rattle.gz_plain.proofs.Committed.{committed_two, committed_within, committed_messages_two, end_of_two}
-use Rattle.gz_plain.proofs.Written.{written, joined, written_more, joined_more, continue_written}
+use Rattle.gz_plain.specs.Kept.{written, joined, Kept}
+use Rattle.gz_plain.proofs.Written.{written_more, joined_more, continue_written}
 use Rattle.gz_plain.proofs.Writer.{committed_output, accepted_output}
 use Rattle.gz_plain.proofs.Folds.{state_two, outputs_two}
-
--- The source is a front that was read, up to the last offset, and the rest. The read order is what the front
--- releases, the store is the fold over it, and the output is batches that put out what the fold puts out.
-pub record Kept (producer : List ℕ) (p : Plain) : Type 0 where
-  pub seen : List Message
-  pub rest : List Message
-  pub batches : List (List Output)
-  pub split : p.source ≡ seen ++ rest
-  pub seen_end : end_of seen ≡ last_offset p
-  pub order : read_order p ≡ messages_of (committed seen)
-  pub offsets : NeverFall 0 p.commits
-  pub store : p.store ≡ state_after [] (read_order p)
-  pub output : p.output ≡ written producer 0 batches
-  pub puts : joined batches ≡ outputs_after [] (read_order p)
 
 -- a shard that starts
 pub kept_start : (producer : List ℕ) → Kept producer start

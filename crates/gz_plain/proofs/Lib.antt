@@ -8,3 +8,5 @@ pub mod Kept
 pub mod Outside
 pub mod Fronts
 pub mod Examples
+pub mod CountLemmas
+pub mod Scanned

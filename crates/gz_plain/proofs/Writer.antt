@@ -8,7 +8,8 @@ use Rattle.gz_plain.specs.Plain.{lines_from, ack_at, end_of, committed, messages
 use Rattle.gz_plain.specs.ExactlyOnce.{outputs_in}
 use Rattle.gz_plain.proofs.Parts.{messages_two}
 use Rattle.gz_plain.proofs.Committed.{committed_two}
-use Rattle.gz_plain.proofs.Written.{written, emitted, joined, of_lines, same_bytes, of_emitted, outputs_in_emitted}
+use Rattle.gz_plain.specs.Kept.{written, joined}
+use Rattle.gz_plain.proofs.Written.{emitted, of_lines, same_bytes, of_emitted, outputs_in_emitted}
 use Rattle.gz_plain.proofs.Histories.{IsOf, Below, is_of_two, greatest_two, greatest_more, below_greater, filter_above_lines, rising_lines, filter_upto_lines, since_end_more, since_end_ended}
 
 -- the messages that one line releases

@@ -10,20 +10,12 @@ use Rattle.gz_frame.specs.Release.{of_producer}
 use Rattle.gz_plain.specs.Application.{Output}
 use Rattle.gz_plain.specs.Plain.{lines_from, ack_at, transaction}
 use Rattle.gz_plain.specs.ExactlyOnce.{outputs_in}
-
--- the batches, each as a transaction
-abbrev pub written : List ℕ → ℕ → List (List Output) → List Message
-written producer last [] = []
-written producer last (os ∷ batches) = transaction producer last os ++ written producer (last + length os + 1) batches
+use Rattle.gz_plain.specs.Kept.{written, joined}
 
 -- the lines of the batches, without the acknowledgements
 abbrev pub emitted : List ℕ → ℕ → List (List Output) → List Message
 emitted producer last [] = []
 emitted producer last (os ∷ batches) = lines_from producer last os ++ emitted producer (last + length os + 1) batches
-
--- the batches, one behind the other
-abbrev pub joined : List (List Output) → List Output
-joined batches = flat_map (λ os. os) batches
 
 -- a batch has one line for each output
 pub length_lines : (producer : List ℕ) (last : ℕ) (os : List Output) → length (lines_from producer last os) ≡ length os

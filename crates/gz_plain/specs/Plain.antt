@@ -19,6 +19,10 @@ committed ms = committed_from line_of 0 [] ms
 abbrev pub messages_of : List Release → List Message
 messages_of rs = map (λ r. r.message) rs
 
+-- how many messages of a journal are committed
+abbrev pub count_committed : List Message → ℕ
+count_committed ms = length (messages_of (committed ms))
+
 -- the released messages whose line ends after `from` and at or before `to`
 abbrev pub is_between : ℕ → ℕ → Release → Bool
 is_between from to r = nat_lt from r.end && nat_le r.end to

@@ -1,6 +1,7 @@
 //! The state of the application `count`: how often each key was counted.
-ghost use Rattle.std.specs.Prelude.{◌≡◌, ◌≤◌, [], length, IfOk, OnErr};
-ghost use Rattle.serde_json.specs.View.{view};
+ghost use Rattle.std.specs.Prelude.{◌≡◌, ◌≤◌, [], length, IfOk, OnOk};
+ghost use Rattle.serde_json.specs.Data.{number, unsigned, put};
+ghost use Rattle.serde_json.specs.View.{view, members_view};
 ghost use Rattle.serde_json.specs.Written.{compact_text};
 ghost use Rattle.gz_plain.specs.Application.{count_of, raised, raise, output_at, data_of};
 
@@ -26,6 +27,19 @@ impl Model for Counts {
     ghost view = { λ a. a.entries.entries };
 }
 
+/// Puts a member for the key into the object.
+fn put_count(
+    alloc: Global,
+    members: &mut Map<String, Value>,
+    key: &str,
+    count: u64,
+) -> Result<(), NoMemory>
+    ensures { OnOk result (members_view members.new.entries ≡ put key.now (number (unsigned count)) (members_view members.old.entries)) }
+{
+    members.insert(String::from_str(alloc, key)?, Value::from(count))?;
+    Ok(())
+}
+
 impl Counts {
     /// No keys. It takes no memory.
     pub fn new(alloc: Global) -> Counts
@@ -48,6 +62,7 @@ impl Counts {
         Ok(count)
     }
 
+    #[tactic(auto, using(crate::proofs::CountLemmas::short_decimal))]
     /// Counts a message, and puts out its key with the new count in decimal.
     pub fn consume(&mut self, alloc: Global, message: &Message) -> Result<Output, NoMemory>
         ensures { IfOk result (λ output. (output ≡ output_at self.old message.now) × (self.new ≡ raise message.now.key self.old)) }
@@ -59,14 +74,14 @@ impl Counts {
         Ok(Output::new(key, value))
     }
 
+    #[tactic(auto, using(crate::proofs::CountLemmas::no_float))]
     /// The counts as compact JSON, an object with a member for each key, in key order.
     pub fn print(&self, alloc: Global) -> Result<Blob, NoMemory>
         ensures { IfOk result (λ text. text ≡ compact_text (data_of self.now)) }
     {
         let mut members = Map::new(alloc);
         for (key, count) in &self.entries {
-            let key = String::from_str(alloc, key.as_str())?;
-            members.insert(key, Value::from(*count))?;
+            put_count(alloc, &mut members, key.as_str(), *count)?;
         }
         let value = Value::from(members);
         gz_json::print(alloc, &value)

@@ -4,9 +4,12 @@
 mod counts;
 mod laws;
 mod outputs;
+mod shard;
 mod text;
+mod write;
 
 pub use counts::Counts;
 pub use laws::exactly_once;
 pub use outputs::{Output, Outputs};
+pub use shard::PlainShard;
 pub use text::MessageText;

@@ -35,14 +35,20 @@ impl Output {
         Output { key, value }
     }
 
-    /// Gives the key and the value back. It takes no memory.
-    pub fn into_texts(self) -> (String, String)
-        ensures key { string_bytes result.0 ≡ self.key }
-        ensures value { string_bytes result.1 ≡ self.value }
-        ensures short_key { length (string_bytes result.0) ≤ 256 }
-        ensures short_value { length (string_bytes result.1) ≤ 4096 }
+    /// The key, of at most 256 bytes.
+    pub fn key(&self) -> &str
+        ensures value { result.now ≡ self.now.key }
+        ensures short { length self.now.key ≤ 256 }
     {
-        (self.key, self.value)
+        self.key.as_str()
+    }
+
+    /// The value, of at most 4,096 bytes.
+    pub fn value(&self) -> &str
+        ensures value { result.now ≡ self.now.value }
+        ensures short { length self.now.value ≤ 4096 }
+    {
+        self.value.as_str()
     }
 }
 
@@ -86,10 +92,10 @@ impl Outputs {
         self.items.is_empty()
     }
 
-    /// Gives the outputs back as a vector. It takes no memory.
-    pub fn into_vec(self) -> Vec<Output>
-        ensures { result.items ≡ self }
+    /// The outputs. It takes no memory.
+    pub fn as_slice(&self) -> &[Output]
+        ensures { result.now ≡ self.now }
     {
-        self.items
+        self.items.as_slice()
     }
 }

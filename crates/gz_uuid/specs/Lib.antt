@@ -1,3 +1,4 @@
+pub mod Clock
+pub mod Flags
 pub mod Identifier
 pub mod Producer
-pub mod Clock

@@ -99,6 +99,7 @@ impl Producer {
         requires { now < 2 ^ 60 }
         ensures end { IsErr result ↔ (self.old.last ≡ 2 ^ 64 - 1) }
         ensures clock { IfOk result (λ clock. clock ≡ tick_of self.old.last now) }
+        ensures rises { IfOk result (λ clock. self.old.last < clock) }
         ensures kept { IfOk result (λ clock. self.new ≡ record self.old { last = clock }) }
         ensures unchanged { OnErr result (self.new ≡ self.old) }
     {

@@ -5,8 +5,10 @@ mod clock;
 mod identifier;
 mod parts;
 mod producer;
+#[cfg(test)]
+mod tests;
 
 pub use clock::{ClockEnd, MsgClock, Producer};
-pub use identifier::build;
+pub use identifier::{build, split, split_undoes_build};
 pub use parts::{Flags, Parts};
 pub use producer::ProducerId;

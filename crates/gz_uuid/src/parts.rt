@@ -55,6 +55,13 @@ impl Flags {
     }
 }
 
+// The numbers that clauses know them by, as `specs/Flags.antt` has them.
+const _: () = prove!(Flags::CONTINUE_TXN.bits == 0);
+
+const _: () = prove!(Flags::OUTSIDE_TXN.bits == 1);
+
+const _: () = prove!(Flags::ACK_TXN.bits == 2);
+
 /// The producer, the clock and the flags of an identifier.
 #[derive(Clone, Copy, Debug, PartialEq, Eq)]
 pub struct Parts {
