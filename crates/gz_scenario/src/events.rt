@@ -1,12 +1,12 @@
 //! The events that a scenario's later lines say.
-ghost use Rattle.std.specs.Prelude.{◌≡◌, ◌≤◌, Some, None, option_map};
+ghost use Rattle.std.specs.Prelude.{◌≡◌, Some, None};
 ghost use Rattle.serde_json.specs.View.{view, items_view};
 ghost use Rattle.gz_scenario.specs.Outcomes.{Gives};
 ghost use Rattle.gz_scenario.specs.Form.{each};
-ghost use Rattle.gz_scenario.specs.Events.{draft_in, drafts_in, publish_in, event_named, event_in, event_of, settle_in};
+ghost use Rattle.gz_scenario.specs.Events.{draft_in, drafts_in, publish_in, event_in, event_of, settle_in};
 
 use crate::FormError;
-use crate::form::{has_no_more, read_items, read_number, read_short, read_text, require};
+use crate::form::{has_only, read_items, read_number, read_short, read_text, require};
 use crate::names::{read_journal_name, read_own_id};
 use gz_label::{Blob, Name};
 use serde_json::Value;
@@ -80,7 +80,7 @@ pub enum Event {
 fn read_draft(alloc: Global, value: &Value) -> Result<Draft, FormError>
     ensures { Gives (λ d. d) result (draft_in (view value.now)) }
 {
-    require(has_no_more(value, &["flag", "clock", "key", "value"]))?;
+    require(has_only(value, &["flag", "clock", "key", "value"]))?;
     let flag = read_text(value, "flag")?;
     require(flag == "outside")?;
     let clock = read_number(value, "clock")?;
@@ -114,7 +114,7 @@ fn read_drafts(alloc: Global, value: &Value) -> Result<Drafts, FormError>
 fn read_publish(alloc: Global, value: &Value) -> Result<Publish, FormError>
     ensures { Gives (λ p. p) result (publish_in (view value.now)) }
 {
-    require(has_no_more(value, &["do", "client", "journal", "messages"]))?;
+    require(has_only(value, &["do", "client", "journal", "messages"]))?;
     let client = read_own_id(alloc, value, "client")?;
     let journal = read_journal_name(alloc, value, "journal")?;
     let messages = read_drafts(alloc, value)?;
@@ -129,7 +129,7 @@ fn read_publish(alloc: Global, value: &Value) -> Result<Publish, FormError>
 fn read_settle(value: &Value) -> Result<Event, FormError>
     ensures { Gives (λ e. e) result (settle_in (view value.now)) }
 {
-    require(has_no_more(value, &["do"]))?;
+    require(has_only(value, &["do"]))?;
     Ok(Event::Settle)
 }
 

@@ -1,7 +1,7 @@
 //! The parts of a JSON value.
-ghost use Rattle.std.specs.Prelude.{◌≡◌, ◌≤◌, map, length, Some, None, option_map, option_and_then};
+ghost use Rattle.std.specs.Prelude.{◌≡◌, map, Some, None};
 ghost use Rattle.serde_json.specs.View.{view, items_view};
-ghost use Rattle.serde_json.specs.Find.{get, as_str};
+ghost use Rattle.serde_json.specs.Find.{get};
 ghost use Rattle.gz_scenario.specs.Outcomes.{Gives};
 ghost use Rattle.gz_scenario.specs.Form.{given, has_only, text_at, number_at, items_at, list_at, short_at, only_item, only_text_at};
 
@@ -22,7 +22,7 @@ pub fn require(holds: bool) -> Result<(), FormError>
 }
 
 /// Whether the value is an object with no members but these.
-pub fn has_no_more(value: &Value, names: &[&str]) -> bool
+pub fn has_only(value: &Value, names: &[&str]) -> bool
     ensures { result ≡ has_only (map (λ name. name.now) names.now) (view value.now) }
 {
     match value.as_object() {

@@ -1,5 +1,5 @@
 //! The members of a cluster: brokers and consumers.
-ghost use Rattle.std.specs.Prelude.{◌≡◌, ◌≤◌, ◌++◌, map, length, Some, None};
+ghost use Rattle.std.specs.Prelude.{◌≡◌, ◌++◌, Some, None};
 ghost use Rattle.serde_json.specs.View.{view, items_view};
 ghost use Rattle.std.specs.List.{list_any};
 ghost use Rattle.gz_json.specs.Json.{is_among};
@@ -9,7 +9,7 @@ ghost use Rattle.gz_scenario.specs.Form.{each};
 ghost use Rattle.gz_scenario.specs.Specifications.{member_in, members_in, ids_of, are_apart};
 
 use crate::FormError;
-use crate::form::{has_no_more, read_list, read_number, require};
+use crate::form::{has_only, read_list, read_number, require};
 use crate::names::{read_id, read_own_id};
 use gz_label::Name;
 use serde_json::Value;
@@ -65,7 +65,7 @@ impl Members {
 fn read_member(alloc: Global, value: &Value) -> Result<MemberSpec, FormError>
     ensures { Gives (λ m. m) result (member_in (view value.now)) }
 {
-    require(has_no_more(value, &["id", "zone", "limit"]))?;
+    require(has_only(value, &["id", "zone", "limit"]))?;
     let id = read_own_id(alloc, value, "id")?;
     let zone = read_id(alloc, value, "zone")?;
     let limit = read_number(value, "limit")?;
@@ -105,8 +105,9 @@ fn is_used(id: &Name, members: &[MemberSpec]) -> bool
     false
 }
 
-/// Whether no two of the members, these and then those, have one id. There are at most 64.
-fn have_own_ids(members: &[MemberSpec]) -> bool
+/// Whether no two of the members have one id. Each is compared with those behind it, of which there
+/// are at most 63.
+fn have_distinct_ids(members: &[MemberSpec]) -> bool
     ensures { result ≡ are_distinct (ids_of members.now) }
 {
     for (i, member) in members.iter().enumerate() {
@@ -117,6 +118,7 @@ fn have_own_ids(members: &[MemberSpec]) -> bool
     true
 }
 
+/// Whether the id of one of the members is that of one of the others.
 fn are_used(members: &[MemberSpec], others: &[MemberSpec]) -> bool
     ensures { result ≡ list_any (λ id. is_among id (ids_of others.now)) (ids_of members.now) }
 {
@@ -128,20 +130,21 @@ fn are_used(members: &[MemberSpec], others: &[MemberSpec]) -> bool
     false
 }
 
+/// Whether no two of all the members have one id.
 #[tactic(auto, using(crate::proofs::Distinct::distinct_append))]
-fn all_have_own_ids(brokers: &[MemberSpec], consumers: &[MemberSpec]) -> bool
+fn all_have_distinct_ids(brokers: &[MemberSpec], consumers: &[MemberSpec]) -> bool
     ensures { result ≡ are_distinct (ids_of brokers.now ++ ids_of consumers.now) }
 {
-    have_own_ids(brokers) && have_own_ids(consumers) && !are_used(brokers, consumers)
+    have_distinct_ids(brokers) && have_distinct_ids(consumers) && !are_used(brokers, consumers)
 }
 
 /// Whether there are at most 64 members in all, no two of one id.
 #[tactic(auto, unfolding(crate::specs::Specifications::are_apart))]
-pub fn stand_apart(brokers: &[MemberSpec], consumers: &[MemberSpec]) -> bool
+pub fn are_apart(brokers: &[MemberSpec], consumers: &[MemberSpec]) -> bool
     ensures { result ≡ are_apart brokers.now consumers.now }
 {
     if brokers.len() > MAX_MEMBERS || consumers.len() > MAX_MEMBERS - brokers.len() {
         return false;
     }
-    all_have_own_ids(brokers, consumers)
+    all_have_distinct_ids(brokers, consumers)
 }

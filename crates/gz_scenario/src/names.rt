@@ -19,27 +19,30 @@ const MAX_ID: usize = 32;
 /// The most bytes of a journal's name.
 const MAX_JOURNAL_NAME: usize = 255;
 
-fn id_holds(byte: u8) -> bool
+/// The most bytes of a name.
+const MAX_NAME: usize = 1024;
+
+fn is_id_byte(byte: u8) -> bool
     ensures { result ≡ is_id_byte byte }
 {
     byte.is_ascii_alphanumeric() || byte == b'_' || byte == b'-'
 }
 
-fn segment_holds(byte: u8) -> bool
+fn is_segment_byte(byte: u8) -> bool
     ensures { result ≡ is_segment_byte byte }
 {
-    id_holds(byte) || byte == b'.'
+    is_id_byte(byte) || byte == b'.'
 }
 
 fn are_id_bytes(text: &[u8]) -> bool
     ensures { result ≡ list_all is_id_byte text.now }
 {
-    text.iter().all(|byte| id_holds(*byte))
+    text.iter().all(|byte| is_id_byte(*byte))
 }
 
 /// Whether the text is an id: 1 to 32 letters, digits, `_` or `-`.
 #[tactic(auto, unfolding(crate::specs::Names::is_id))]
-fn names_member(text: &[u8]) -> bool
+fn is_id(text: &[u8]) -> bool
     ensures value { result ≡ is_id text.now }
     ensures short { IsTrue result → length text.now ≤ 32 }
 {
@@ -54,7 +57,7 @@ fn are_digits(text: &[u8]) -> bool
 }
 
 #[tactic(auto, unfolding(crate::specs::Names::is_numbered))]
-fn is_word_with_number(word: &[u8], text: &[u8]) -> bool
+fn is_numbered(word: &[u8], text: &[u8]) -> bool
     ensures { result ≡ is_numbered word.now text.now }
 {
     match text.strip_prefix(word) {
@@ -65,12 +68,10 @@ fn is_word_with_number(word: &[u8], text: &[u8]) -> bool
 
 /// Whether the id is kept for clients of the program's own.
 #[tactic(auto, unfolding(crate::specs::Names::is_reserved))]
-fn is_kept(text: &[u8]) -> bool
+fn is_reserved(text: &[u8]) -> bool
     ensures { result ≡ is_reserved text.now }
 {
-    is_word_with_number(b"keys", text)
-        || is_word_with_number(b"store", text)
-        || is_word_with_number(b"client", text)
+    is_numbered(b"keys", text) || is_numbered(b"store", text) || is_numbered(b"client", text)
 }
 
 /// Whether the text is one or more segments, with a `/` between each two.
@@ -86,7 +87,7 @@ fn is_path(text: &[u8]) -> bool
             }
             is_inside = false;
         } else {
-            if !segment_holds(*byte) {
+            if !is_segment_byte(*byte) {
                 return false;
             }
             is_inside = true;
@@ -98,7 +99,7 @@ fn is_path(text: &[u8]) -> bool
 /// Whether the text is a journal's name: at most 255 bytes, and segments of letters, digits, `_`,
 /// `.` and `-` with a `/` between each two.
 #[tactic(auto, unfolding(crate::specs::Names::is_journal_name))]
-fn names_journal(text: &[u8]) -> bool
+fn is_journal_name(text: &[u8]) -> bool
     ensures value { result ≡ is_journal_name text.now }
     ensures short { IsTrue result → length text.now ≤ 255 }
 {
@@ -131,7 +132,7 @@ pub fn read_name(alloc: Global, value: &Value, name: &str) -> Result<Name, FormE
 pub fn short_name(alloc: Global, text: &str) -> Result<Name, FormError>
     ensures { Gives (λ name. name) result (short_text 1024 text.now) }
 {
-    if text.len() > 1024 {
+    if text.len() > MAX_NAME {
         return Err(FormError::Unknown);
     }
     let name = name_from(alloc, text)?;
@@ -143,7 +144,7 @@ pub fn read_id(alloc: Global, value: &Value, name: &str) -> Result<Name, FormErr
     ensures { Gives (λ id. id) result (id_at name.now (view value.now)) }
 {
     let text = read_text(value, name)?;
-    if !names_member(text.as_bytes()) {
+    if !is_id(text.as_bytes()) {
         return Err(FormError::Unknown);
     }
     let id = name_from(alloc, text)?;
@@ -155,7 +156,7 @@ pub fn read_own_id(alloc: Global, value: &Value, name: &str) -> Result<Name, For
     ensures { Gives (λ id. id) result (own_id_at name.now (view value.now)) }
 {
     let id = read_id(alloc, value, name)?;
-    if is_kept(id.as_slice()) {
+    if is_reserved(id.as_slice()) {
         return Err(FormError::Unknown);
     }
     Ok(id)
@@ -166,7 +167,7 @@ pub fn read_journal_name(alloc: Global, value: &Value, name: &str) -> Result<Nam
     ensures { Gives (λ name. name) result (journal_name_at name.now (view value.now)) }
 {
     let text = read_text(value, name)?;
-    if !names_journal(text.as_bytes()) {
+    if !is_journal_name(text.as_bytes()) {
         return Err(FormError::Unknown);
     }
     let name = name_from(alloc, text)?;

@@ -1,17 +1,17 @@
 //! The specifications that a scenario's first line says.
-ghost use Rattle.std.specs.Prelude.{◌≡◌, ◌≤◌, Some, None, IfOk};
+ghost use Rattle.std.specs.Prelude.{◌≡◌, Some, None, IfOk};
 ghost use Rattle.serde_json.specs.View.{view, items_view};
 ghost use Rattle.gz_json.specs.Json.{is_among};
 ghost use Rattle.gz_scenario.specs.Outcomes.{Gives};
 ghost use Rattle.gz_scenario.specs.Names.{are_distinct};
 ghost use Rattle.gz_scenario.specs.Form.{each};
-ghost use Rattle.gz_scenario.specs.Specifications.{content_of, content_in, journal_in, journals_in, names_of, source_in, output_in, shard_in, shard_of, has_lines, has_log, log_name, fits, fits_if, shard_among, begins_specs, specs_in, specs_of, is_lines};
+ghost use Rattle.gz_scenario.specs.Specifications.{content_of, content_in, journal_in, journals_in, names_of, source_in, output_in, shard_in, shard_of, has_lines, has_log, log_name, fits, fits_if, shard_among, begins_specs, specs_in, specs_of};
 
 use crate::FormError;
 use crate::form::{
-    has_no_more, read_items, read_list, read_only, read_only_text, read_text, read_value, require,
+    has_only, read_items, read_list, read_only, read_only_text, read_text, read_value, require,
 };
-use crate::members::{Members, read_members, stand_apart};
+use crate::members::{Members, are_apart, read_members};
 use crate::names::{read_id, read_journal_name, read_name, short_name};
 use gz_label::{Blob, Name, NoMemory};
 use serde_json::Value;
@@ -103,7 +103,7 @@ fn content_named(text: &str) -> Result<Content, FormError>
 fn read_content(labels: &Value) -> Result<Content, FormError>
     ensures { Gives (λ c. c) result (content_in (view labels.now)) }
 {
-    require(has_no_more(labels, &["content-type"]))?;
+    require(has_only(labels, &["content-type"]))?;
     let text = read_only_text(labels, "content-type")?;
     let content = content_named(text)?;
     Ok(content)
@@ -113,7 +113,7 @@ fn read_content(labels: &Value) -> Result<Content, FormError>
 fn read_journal(alloc: Global, value: &Value) -> Result<JournalSpec, FormError>
     ensures { Gives (λ j. j) result (journal_in (view value.now)) }
 {
-    require(has_no_more(value, &["name", "labels"]))?;
+    require(has_only(value, &["name", "labels"]))?;
     let name = read_journal_name(alloc, value, "name")?;
     let labels = read_value(value, "labels")?;
     let content = read_content(labels)?;
@@ -142,9 +142,9 @@ fn is_used(name: &Name, journals: &[JournalSpec]) -> bool
     false
 }
 
-/// Whether no two of the journals have one name. Each is compared with those behind it, which are at
-/// most 1,023.
-fn have_own_names(journals: &[JournalSpec]) -> bool
+/// Whether no two of the journals have one name. Each is compared with those behind it, of which there
+/// are at most 1,023, so that a full line costs half a million short comparisons.
+fn have_distinct_names(journals: &[JournalSpec]) -> bool
     ensures { result ≡ are_distinct (names_of journals.now) }
 {
     for (i, journal) in journals.iter().enumerate() {
@@ -162,7 +162,7 @@ fn read_journals(alloc: Global, value: &Value) -> Result<Journals, FormError>
     let values = read_list(value, "journals")?;
     let journals = read_each_journal(alloc, values)?;
     let all = journals.as_slice();
-    require(all.len() <= MAX_JOURNALS && have_own_names(all))?;
+    require(all.len() <= MAX_JOURNALS && have_distinct_names(all))?;
     Ok(journals)
 }
 
@@ -172,7 +172,7 @@ fn read_source(alloc: Global, value: &Value) -> Result<Name, FormError>
 {
     let sources = read_items(value, "sources")?;
     let source = read_only(sources)?;
-    require(has_no_more(source, &["journal"]))?;
+    require(has_only(source, &["journal"]))?;
     let journal = read_name(alloc, source, "journal")?;
     Ok(journal)
 }
@@ -181,7 +181,7 @@ fn read_source(alloc: Global, value: &Value) -> Result<Name, FormError>
 fn read_output(alloc: Global, labels: &Value) -> Result<Name, FormError>
     ensures { Gives (λ name. name) result (output_in (view labels.now)) }
 {
-    require(has_no_more(labels, &["app", "output"]))?;
+    require(has_only(labels, &["app", "output"]))?;
     let app = read_only_text(labels, "app")?;
     require(app == "count")?;
     let text = read_only_text(labels, "output")?;
@@ -193,7 +193,7 @@ fn read_output(alloc: Global, labels: &Value) -> Result<Name, FormError>
 fn read_shard(alloc: Global, value: &Value) -> Result<ShardSpec, FormError>
     ensures { Gives (λ s. s) result (shard_in (view value.now)) }
 {
-    require(has_no_more(value, &["id", "sources", "recovery_log_prefix", "labels"]))?;
+    require(has_only(value, &["id", "sources", "recovery_log_prefix", "labels"]))?;
     let id = read_id(alloc, value, "id")?;
     let source = read_source(alloc, value)?;
     let recovery_log_prefix = read_name(alloc, value, "recovery_log_prefix")?;
@@ -221,7 +221,7 @@ fn read_one_shard(alloc: Global, values: &[Value]) -> Result<Option<ShardSpec>, 
     }
 }
 
-fn holds_lines(journals: &[JournalSpec], name: &[u8]) -> bool
+fn has_lines(journals: &[JournalSpec], name: &[u8]) -> bool
     ensures { result ≡ has_lines journals.now name.now }
 {
     for journal in journals {
@@ -232,7 +232,7 @@ fn holds_lines(journals: &[JournalSpec], name: &[u8]) -> bool
     false
 }
 
-fn holds_log(journals: &[JournalSpec], name: &[u8]) -> bool
+fn has_log(journals: &[JournalSpec], name: &[u8]) -> bool
     ensures { result ≡ has_log journals.now name.now }
 {
     for journal in journals {
@@ -243,7 +243,7 @@ fn holds_log(journals: &[JournalSpec], name: &[u8]) -> bool
     false
 }
 
-fn recovery_log(alloc: Global, shard: &ShardSpec) -> Result<Blob, NoMemory>
+fn log_name(alloc: Global, shard: &ShardSpec) -> Result<Blob, NoMemory>
     ensures { IfOk result (λ name. name ≡ log_name shard.now) }
 {
     let mut name = Blob::of(alloc, shard.recovery_log_prefix.as_slice())?;
@@ -261,13 +261,13 @@ fn has_its_journals(
 ) -> Result<bool, NoMemory>
     ensures { IfOk result (λ holds. holds ≡ fits journals.now shard.now) }
 {
-    let log = recovery_log(alloc, shard)?;
+    let log = log_name(alloc, shard)?;
     let source = shard.source.as_slice();
     let output = shard.output.as_slice();
-    let holds = holds_lines(journals, source)
-        && holds_lines(journals, output)
+    let holds = has_lines(journals, source)
+        && has_lines(journals, output)
         && source != output
-        && holds_log(journals, log.as_slice());
+        && has_log(journals, log.as_slice());
     Ok(holds)
 }
 
@@ -306,7 +306,7 @@ fn read_shard_among(
 fn refuse_other(value: &Value) -> Result<(), FormError>
     ensures { Gives (λ u. u) result (begins_specs (view value.now)) }
 {
-    require(has_no_more(value, &["do", "journals", "shards", "brokers", "consumers"]))?;
+    require(has_only(value, &["do", "journals", "shards", "brokers", "consumers"]))?;
     let verb = read_text(value, "do")?;
     require(verb == "specs")?;
     Ok(())
@@ -321,7 +321,7 @@ fn read_specs_value(alloc: Global, value: &Value) -> Result<Specs, FormError>
     let shard = read_shard_among(alloc, journals.as_slice(), value)?;
     let brokers = read_members(alloc, value, "brokers")?;
     let consumers = read_members(alloc, value, "consumers")?;
-    require(stand_apart(brokers.as_slice(), consumers.as_slice()))?;
+    require(are_apart(brokers.as_slice(), consumers.as_slice()))?;
     Ok(Specs {
         journals,
         shard,
