@@ -14,12 +14,7 @@ fn run(rt: &HostRuntime) -> io::Result<Exit> {
     }
     let mut input = StdSource::new(rt.reader());
     let mut output = StdSink::new(io::writer(rt));
-    Ok(gazctl(
-        rt.alloc(),
-        words.as_slice(),
-        &mut input,
-        &mut output,
-    ))
+    Ok(gazctl(rt.alloc(), words.as_slice(), &mut input, &mut output))
 }
 
 fn main(rt: HostRuntime) -> ExitCode {

@@ -20,9 +20,9 @@ is_number text = nat_le 1 (length text) && list_all is_ascii_digit text
 unfoldable pub is_numbered : List ℕ → List ℕ → Bool
 is_numbered word text = bytes_eq (take (length word) text) word && is_number (drop (length word) text)
 
--- an id that is kept for clients of the program's own
+-- An id that is kept for the program's own: the key space, the store, and the clients of a served cluster.
 unfoldable pub is_reserved : List ℕ → Bool
-is_reserved text = is_numbered (codes "keys") text || is_numbered (codes "store") text || is_numbered (codes "client") text
+is_reserved text = bytes_eq text (codes "keys") || bytes_eq text (codes "store") || is_numbered (codes "client") text
 
 -- the byte, before the first of the parts
 abbrev pub onto : ℕ → List (List ℕ) → List (List ℕ)

@@ -66,12 +66,12 @@ fn is_numbered(word: &[u8], text: &[u8]) -> bool
     }
 }
 
-/// Whether the id is kept for clients of the program's own.
+/// Whether the id is kept for the program's own: the key space, the store, and a served cluster's clients.
 #[tactic(auto, unfolding(crate::specs::Names::is_reserved))]
 fn is_reserved(text: &[u8]) -> bool
     ensures { result ≡ is_reserved text.now }
 {
-    is_numbered(b"keys", text) || is_numbered(b"store", text) || is_numbered(b"client", text)
+    text == b"keys".as_slice() || text == b"store".as_slice() || is_numbered(b"client", text)
 }
 
 /// Whether the text is one or more segments, with a `/` between each two.

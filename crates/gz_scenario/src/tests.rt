@@ -15,7 +15,7 @@ fn specifications(rt: HostRuntime) -> Result<(), Fail> {
         SPECS,
         "{\"do\":\"specs\"}",
         "{\"journals\":[],\"do\":\"settle\",\"do\":\"specs\"}",
-        "{\"do\":\"specs\",\"brokers\":[{\"limit\":1024,\"zone\":\"z\",\"id\":\"keys\"}]}",
+        "{\"do\":\"specs\",\"brokers\":[{\"limit\":1024,\"zone\":\"z\",\"id\":\"keys1\"}]}",
     ];
     for line in good {
         let refused = read_specs(alloc, line.as_bytes()).err();
@@ -41,7 +41,7 @@ fn specifications(rt: HostRuntime) -> Result<(), Fail> {
         ("\"limit\":16", "\"limit\":1025"),
         ("\"limit\":16", "\"limit\":1.0"),
         ("\"id\":\"b2\"", "\"id\":\"c1\""),
-        ("\"id\":\"b2\"", "\"id\":\"store7\""),
+        ("\"id\":\"b2\"", "\"id\":\"store\""),
         ("\"id\":\"b2\"", "\"id\":\"b.2\""),
         ("\"zone\":\"z2\"", "\"zone\":\"z 2\""),
     ];
