@@ -1,5 +1,5 @@
 -- A block that is read behind bytes in which no line ends.
-use Rattle.std.proofs.Common.{◌≡◌, ℕ, ◌+◌, ◌<◌, take, List, [], ◌∷◌, ◌++◌, length, drop, refl, ap, sym, ◌∙◌, append_assoc, Option, Some, None, option_map, arith, length-append, cond, Bool, true, false, ◌==◌, suc}
+use Rattle.std.proofs.Common.{◌≡◌, ℕ, ◌+◌, ◌<◌, take, List, [], ◌∷◌, ◌++◌, length, drop, refl, ap, ◌∙◌, append_assoc, Option, Some, None, option_map, arith, length-append, cond, Bool, true, false, ◌==◌, suc}
 use Rattle.std.proofs.lemmas.List.{drop_at, append-nil}
 use Rattle.std.specs.Io.KnownBytes.{Keeps, Consumes, IsAtEnd}
 use Rattle.gz_model.specs.Lines.{line_len, IsSearched}

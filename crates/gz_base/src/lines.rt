@@ -23,6 +23,7 @@ pub enum LineError {
     Fault,
     /// The line has more bytes than the limit.
     TooLong,
+    /// Memory ran out.
     NoMemory,
 }
 
@@ -136,7 +137,7 @@ impl Model for LineReader {
 }
 
 impl LineReader {
-    /// A reader that has read nothing.
+    /// A reader that has read nothing. It takes the memory of one block, 65,536 bytes.
     pub fn new(alloc: Global) -> Result<LineReader, NoMemory>
         ensures { IfOk result (λ reader. reader ≡ []) }
     {

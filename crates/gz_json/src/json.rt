@@ -12,7 +12,8 @@ use gz_label::{Blob, NoMemory};
 use serde_json::{Map, Value};
 use std::alloc::Global;
 
-/// The value of the text, where it is JSON.
+/// The value of the text, where it is JSON; None where it isn't, or isn't UTF-8. Of members of one name the
+/// last counts.
 #[tactic(auto, using(crate::proofs::Known::json_of_text))]
 pub fn parse(alloc: Global, bytes: &[u8]) -> Result<Option<Value>, NoMemory>
     ensures { IfOk result (λ value. option_map view value ≡ json_of bytes.now) }
@@ -51,7 +52,7 @@ pub fn first_unknown<'a>(members: &'a Map<String, Value>, known: &[&str]) -> Opt
     None
 }
 
-/// The compact text of the value, which has no float.
+/// The compact text of the value, which has no float, with the members of an object in name order.
 #[tactic(auto, using(crate::proofs::Known::json_of_text))]
 pub fn print(alloc: Global, value: &Value) -> Result<Blob, NoMemory>
     requires { has_float (view value.now) ≡ false }

@@ -2,5 +2,7 @@
 #![tactic(auto)]
 
 mod json;
+#[cfg(test)]
+mod tests;
 
 pub use json::{first_unknown, parse, print};

@@ -1,5 +1,5 @@
 -- UTF-8, as a test.
-use Rattle.std.proofs.Common.{◌≡◌, ℕ, ◌==◌, List, length, refl, true, arith}
+use Rattle.std.proofs.Common.{◌≡◌, ℕ, ◌==◌, List, length, true, arith}
 use Rattle.std.specs.Str.{IsUtf8}
 use Rattle.std.proofs.lemmas.Grind.{common_steps}
 use Rattle.std.proofs.lemmas.Str.{utf8_valid_len-IsUtf8}

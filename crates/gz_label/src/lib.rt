@@ -4,6 +4,8 @@
 mod blob;
 mod name;
 mod no_memory;
+#[cfg(test)]
+mod tests;
 
 pub use blob::Blob;
 pub use name::{LabelError, Name};

@@ -31,8 +31,10 @@ impl Model for Name {
 /// Why a text is no name.
 #[derive(Clone, Copy, Debug, PartialEq, Eq)]
 pub enum LabelError {
-    /// The text isn't UTF-8 from this byte on, or is longer than this many bytes, which are 1,024.
+    /// The text isn't UTF-8 from this byte on, counted from 0, or is longer than this many bytes, which are
+    /// 1,024.
     BadName { at: usize },
+    /// Memory ran out.
     NoMemory,
 }
 
@@ -59,7 +61,8 @@ impl From<AllocError> for LabelError {
 }
 
 impl Name {
-    /// The text as a name: UTF-8 of at most 1,024 bytes.
+    /// The text as a name: UTF-8 of at most 1,024 bytes, which may be none. Else BadName with the first byte
+    /// from which it isn't UTF-8, or with 1,024, the lesser; NoMemory where a name finds no memory.
     #[tactic(auto, using(crate::proofs::Utf8::is_utf8_of_text))]
     pub fn read(alloc: Global, text: &[u8]) -> Result<Name, LabelError>
         ensures { Gives (λ name. name) result (name_of text.now) }
@@ -79,7 +82,7 @@ impl Name {
         }
     }
 
-    /// The text as a name, where it is known to be short enough.
+    /// The text as a name, where it is known to have at most 1,024 bytes.
     pub fn of(alloc: Global, text: &str) -> Result<Name, NoMemory>
         requires { length text.now ≤ 1024 }
         ensures { IfOk result (λ name. name ≡ text.now) }

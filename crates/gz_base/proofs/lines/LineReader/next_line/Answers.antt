@@ -1,4 +1,4 @@
-use Rattle.std.proofs.Common.{◌≡◌, ◌≤◌, length, arith, rules, sym, ap}
+use Rattle.std.proofs.Common.{length, arith, sym, ap}
 use Rattle.gz_base.proofs.ToldLemmas.{takes_whole, long_line}
 use Rattle.gz_base.proofs.ReadLemmas.{keeps_more, searched_more, length_more, last_line}
 use Rattle.gz_base.proofs.lines.LineReader.next_line.Goals as goal
