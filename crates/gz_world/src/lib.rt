@@ -7,6 +7,8 @@ mod replays;
 mod reply;
 mod report;
 mod roles;
+#[cfg(test)]
+mod tests;
 mod world;
 
 pub use laws::every_run_is_exactly_once;
