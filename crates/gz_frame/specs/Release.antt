@@ -1,5 +1,5 @@
 -- The release rule, after Gazette's message package: which messages of a journal's text are read, each once.
-use Rattle.std.specs.Prelude.{ℕ, ◌+◌, ◌||◌, List, [], ◌∷◌, ◌++◌, length, map, filter, Option, Some, None, Bool, true, false, if◌then◌else◌, nat_lt, nat_le, max}
+use Rattle.std.specs.Prelude.{ℕ, ◌+◌, List, [], ◌∷◌, ◌++◌, length, map, filter, Option, Some, None, Bool, true, if◌then◌else◌, nat_lt, nat_le, max}
 use Rattle.std.specs.List.{list_any}
 use Rattle.std.specs.Str.{bytes_eq}
 use Rattle.gz_frame.specs.Messages.{Message, is_outside, is_ack, is_end}

@@ -3,6 +3,8 @@
 
 mod line;
 mod message;
+#[cfg(test)]
+mod tests;
 
 pub use line::print_line;
 pub use message::{Message, Messages};

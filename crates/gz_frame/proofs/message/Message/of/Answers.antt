@@ -1,6 +1,5 @@
-use Rattle.std.proofs.Common.{◌≡◌, List, ℕ, true, string_bytes}
+use Rattle.std.proofs.Common.{string_bytes}
 use Rattle.std.specs.Str.{IsUtf8}
-use Rattle.gz_frame.specs.Messages.{is_message}
 use Rattle.gz_frame.proofs.Texts.{is_lawful}
 use Rattle.gz_frame.proofs.message.Message.of.Goals as goal
 
