@@ -40,11 +40,9 @@ fn run(
     Ok((exit, wrote))
 }
 
-fn joined(alloc: Global, parts: &[&str]) -> Result<Blob, Fail> {
-    let mut text = Blob::new(alloc);
-    for part in parts {
-        text.append(part.as_bytes())?;
-    }
+fn joined(alloc: Global, first: &str, rest: &str) -> Result<Blob, Fail> {
+    let mut text = Blob::of(alloc, first.as_bytes())?;
+    text.append(rest.as_bytes())?;
     Ok(text)
 }
 
@@ -52,56 +50,50 @@ fn joined(alloc: Global, parts: &[&str]) -> Result<Blob, Fail> {
 fn rows(rt: HostRuntime) -> Result<(), Fail> {
     let alloc = rt.alloc();
     let replays: &[&str] = &["replay", "-"];
-    for (words, parts, want, exit) in [
-        (replays, [SPECS, RUN], REPORT, Exit::Done),
-        (replays, ["", ""], "", Exit::Done),
-        (replays, [SPECS, ""], EMPTY_REPORT, Exit::Done),
+    for (words, first, rest, want, exit) in [
+        (replays, SPECS, RUN, REPORT, Exit::Done),
+        (replays, "", "", "", Exit::Done),
+        (replays, SPECS, "", EMPTY_REPORT, Exit::Done),
+        (replays, "", "\n", "line 1: unknown event\n", Exit::BadInput),
+        (replays, RUN, "", "line 1: unknown event\n", Exit::BadInput),
         (
             replays,
-            ["", "\n"],
-            "line 1: unknown event\n",
-            Exit::BadInput,
-        ),
-        (
-            replays,
-            [RUN, ""],
-            "line 1: unknown event\n",
-            Exit::BadInput,
-        ),
-        (
-            replays,
-            [SPECS, SPECS],
+            SPECS,
+            SPECS,
             "line 2: unknown event\n",
             Exit::BadInput,
         ),
         (
             replays,
-            [SPECS, "{\"do\":\"settle\"}\n\n"],
+            SPECS,
+            "{\"do\":\"settle\"}\n\n",
             "line 3: unknown event\n",
             Exit::BadInput,
         ),
         (
             replays,
-            [SPECS, "{\"do\":\"settle\",\"a\":1}"],
+            SPECS,
+            "{\"do\":\"settle\",\"a\":1}",
             "line 2: unknown event\n",
             Exit::BadInput,
         ),
         (
             replays,
-            [SPECS, "{\"do\":\"drain\"}"],
+            SPECS,
+            "{\"do\":\"drain\"}",
             "line 2: unknown event\n",
             Exit::BadInput,
         ),
-        (&[], [SPECS, RUN], USAGE, Exit::Usage),
-        (&["replay"], [SPECS, RUN], USAGE, Exit::Usage),
-        (&["replay", "x"], [SPECS, RUN], USAGE, Exit::Usage),
-        (&["Replay", "-"], [SPECS, RUN], USAGE, Exit::Usage),
-        (&["replay", "-", "-"], [SPECS, RUN], USAGE, Exit::Usage),
+        (&[], SPECS, RUN, USAGE, Exit::Usage),
+        (&["replay"], SPECS, RUN, USAGE, Exit::Usage),
+        (&["replay", "x"], SPECS, RUN, USAGE, Exit::Usage),
+        (&["Replay", "-"], SPECS, RUN, USAGE, Exit::Usage),
+        (&["replay", "-", "-"], SPECS, RUN, USAGE, Exit::Usage),
     ] {
-        let text = joined(alloc, &parts)?;
+        let text = joined(alloc, first, rest)?;
         let (got, wrote) = run(alloc, words, text, Vec::new(alloc), Vec::new(alloc))?;
-        assert_eq!(rt; wrote.as_slice(), want.as_bytes(), "at {parts:?}");
-        assert_eq!(rt; got, exit, "at {parts:?}");
+        assert_eq!(rt; wrote.as_slice(), want.as_bytes(), "at {rest:?}");
+        assert_eq!(rt; got, exit, "at {rest:?}");
     }
     Ok(())
 }
@@ -121,7 +113,7 @@ fn calls_that_fail(rt: HostRuntime) -> Result<(), Fail> {
         (9, 1, REPORT, Exit::Done),
         (0, 0, "", Exit::WriteFault),
     ] {
-        let text = joined(alloc, &[SPECS, RUN])?;
+        let text = joined(alloc, SPECS, RUN)?;
         let (got, wrote) = run(
             alloc,
             words,

@@ -1,5 +1,5 @@
 -- What every run keeps of its shard.
-use Rattle.std.proofs.Common.{◌≡◌, ℕ, List, [], ◌∷◌, ◌+◌, length, refl, ap, sym, ◌∙◌, subst, Bool, true, false, cond, Option, Some, None, option_and_then, Result, Ok, Err}
+use Rattle.std.proofs.Common.{◌≡◌, ℕ, List, [], ◌∷◌, ◌+◌, length, refl, subst, Bool, true, false, cond, Option, Some, None, option_and_then, Result, Ok, Err}
 use Rattle.gz_model.specs.Steps.{◌>>=◌}
 use Rattle.gz_frame.specs.Messages.{Message}
 use Rattle.gz_scenario.specs.Specifications.{specs_of}

@@ -5,7 +5,6 @@ use Rattle.gz_model.specs.Lines.{lines_of}
 use Rattle.gz_model.specs.Steps.{◌>>=◌}
 use Rattle.gz_scenario.specs.Specifications.{specs_of}
 use Rattle.gz_scenario.specs.Events.{event_of}
-use Rattle.gz_scenario.specs.declared.specifications.Specs.{Specs}
 use Rattle.gz_world.specs.declared.reply.Refusal.{Refusal}
 use Rattle.gz_world.specs.declared.reply.Refusal.TheVariants.{Limit, Unknown}
 use Rattle.gz_world.specs.Worlds.{World, world_start, after}

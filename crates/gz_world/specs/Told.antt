@@ -1,5 +1,5 @@
 -- A run over bytes that are told.
-use Rattle.std.specs.Prelude.{◌≡◌, ◌<◌, ℕ, List, [], ◌∷◌, length, Option, Some, None, Result, Ok, Err, ⊤}
+use Rattle.std.specs.Prelude.{◌≡◌, ℕ, List, Option, Some, None, Result, Ok, Err, ⊤}
 use Rattle.std.specs.Io.KnownBytes.{IsAtEnd}
 use Rattle.gz_model.specs.Lines.{lines_of}
 use Rattle.gz_model.specs.Told.{TakesLine, HasLongLine}
