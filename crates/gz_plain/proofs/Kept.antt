@@ -9,7 +9,7 @@ use Rattle.gz_plain.specs.Plain.{Plain, start, landed, stepped, commit, commit_i
 use Rattle.gz_plain.specs.ExactlyOnce.{ExactlyOnce, NeverFall, read_order, outputs_in, Happening, lands, steps, after_one, after_all}
 use Rattle.gz_plain.proofs.Parts.{Within, part_inside, part_before, part_two, order_same, order_more, last_more, never_fall_more}
 use Rattle.gz_plain.proofs.Committed.{committed_two, committed_within, committed_messages_two, end_of_two}
-use Rattle.gz_plain.specs.Kept.{written, joined, Kept}
+use Rattle.gz_plain.specs.Kept.{written, Kept}
 use Rattle.gz_plain.proofs.Written.{written_more, joined_more, continue_written}
 use Rattle.gz_plain.proofs.Writer.{committed_output, accepted_output}
 use Rattle.gz_plain.proofs.Folds.{state_two, outputs_two}

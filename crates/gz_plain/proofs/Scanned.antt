@@ -1,13 +1,13 @@
 -- What the code of a shard keeps beside its lists: how far it has scanned its source, and the greatest clock there.
-use Rattle.std.proofs.Common.{◌≡◌, ◌≤◌, ◌+◌, ℕ, Bool, true, false, cond, length-append, List, [], ◌∷◌, ◌++◌, length, take, drop, refl, ap, sym, subst, ◌∙◌, Option, Some, None, arith, append_assoc}
-use Rattle.std.proofs.lemmas.List.{append-nil, take-append-drop, take-append-le}
+use Rattle.std.proofs.Common.{◌≡◌, ℕ, Bool, true, false, cond, length-append, List, [], ◌∷◌, ◌++◌, length, take, drop, refl, ap, sym, subst, ◌∙◌, Option, Some, None, arith}
+use Rattle.std.proofs.lemmas.List.{take-append-drop, take-append-le}
 use Rattle.std.proofs.Math.Seq.{take-length}
 use Rattle.gz_frame.specs.Messages.{Message}
 use Rattle.gz_frame.specs.Line.{line_of}
 use Rattle.gz_frame.specs.Release.{is_above}
 use Rattle.gz_plain.specs.Application.{Counts, Output, state_after, outputs_after}
-use Rattle.gz_plain.specs.Plain.{Plain, start, landed, stepped, commit, commit_if, untaken, committed, messages_of, end_of, transaction}
-use Rattle.gz_plain.specs.ExactlyOnce.{read_order}
+use Rattle.gz_plain.specs.Plain.{Plain, start, landed, stepped, commit_if, untaken, committed, messages_of, end_of, transaction}
+use Rattle.gz_plain.specs.ExactlyOnce.{read_order, ReadsAll}
 use Rattle.gz_plain.specs.Outside.{AllOutside, newer_from, newest_from}
 use Rattle.gz_plain.specs.Kept.{Kept, IsScanned}
 use Rattle.gz_plain.proofs.Kept.{kept_start, kept_landed, kept_stepped, kept_below, read_order_landed, order_whole, stepped_reads}
@@ -68,6 +68,11 @@ source_if producer (m ∷ ms) p = refl
 
 pub source_stepped : (producer : List ℕ) (p : Plain) → (stepped producer p).source ≡ p.source
 source_stepped producer p = source_if producer (untaken p) p
+
+-- after a step all that the source has committed is read
+pub step_reads_all : (producer : List ℕ) (p : Plain) → Kept producer p → ReadsAll (stepped producer p)
+step_reads_all producer p k =
+    stepped_reads producer p k ∙ ap (λ (ms : List Message). messages_of (committed ms)) (sym (source_stepped producer p))
 
 -- a step scans the source to its end
 pub scanned_stepped : (producer client : List ℕ) (scanned : ℕ) (top : Option ℕ) (p : Plain) → IsScanned producer client scanned top p → IsScanned producer client (length p.source) (newest_from top (drop scanned p.source)) (stepped producer p)

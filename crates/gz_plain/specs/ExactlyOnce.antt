@@ -30,6 +30,10 @@ pub record ExactlyOnce (producer : List ℕ) (p : Plain) : Type 0 where
   -- readers of the output accept exactly what the fold puts out
   pub accepted : outputs_in (of_producer producer (messages_of (committed p.output))) ≡ outputs_after [] (read_order p)
 
+-- nothing that the source has committed is left to read
+abbrev pub ReadsAll : Plain → Type 0
+ReadsAll p = read_order p ≡ messages_of (committed p.source)
+
 -- what may happen to a shard
 pub data Happening : Type 0 where
   lands : List Message → Happening

@@ -9,7 +9,7 @@ mod text;
 mod write;
 
 pub use counts::Counts;
-pub use laws::exactly_once;
+pub use laws::{a_step_reads_all, exactly_once};
 pub use outputs::{Output, Outputs};
 pub use shard::PlainShard;
 pub use text::MessageText;

@@ -10,10 +10,11 @@ use Rattle.gz_scenario.specs.declared.events.Event.TheVariants.{Publish, Settle}
 use Rattle.gz_scenario.specs.declared.specifications.Specs.{Specs}
 use Rattle.gz_plain.specs.Kept.{Kept}
 use Rattle.gz_plain.specs.Plain.{stepped}
-use Rattle.gz_plain.specs.ExactlyOnce.{ExactlyOnce}
+use Rattle.gz_plain.specs.ExactlyOnce.{ExactlyOnce, ReadsAll}
+use Rattle.gz_plain.proofs.Scanned.{step_reads_all}
 use Rattle.gz_plain.proofs.Kept.{kept_start, kept_landed, kept_stepped, exactly_once_of}
 use Rattle.gz_world.specs.declared.reply.Refusal.{Refusal}
-use Rattle.gz_world.specs.Worlds.{World, world_start, shard_producer, after, may_publish, publish_if, published, content_of}
+use Rattle.gz_world.specs.Worlds.{World, world_start, shard_producer, after, may_publish, publish_if, published, content_of, settled}
 use Rattle.gz_world.specs.Run.{is_past, known_or, judged, judged_first, run, outcome_from}
 
 -- the shard of a world is one that keeps its promise
@@ -90,3 +91,7 @@ outcome_kept (line ∷ lines) v is = begun_kept line lines (judged_first line) v
 -- each message is taken exactly once
 pub exactly_once : (lines : List (List ℕ)) (v : World) → outcome_from lines ≡ Ok (Some v) → ExactlyOnce v.shard.producer v.shard.plain
 exactly_once lines v is = exactly_once_of v.shard.producer v.shard.plain (outcome_kept lines v is)
+
+-- a settle reads all that is committed
+pub settle_reads_all : (lines : List (List ℕ)) (v : World) → outcome_from lines ≡ Ok (Some v) → ReadsAll (settled v).shard.plain
+settle_reads_all lines v is = step_reads_all v.shard.producer v.shard.plain (outcome_kept lines v is)

@@ -11,7 +11,7 @@ mod roles;
 mod tests;
 mod world;
 
-pub use laws::every_run_is_exactly_once;
+pub use laws::{a_settle_reads_all, every_run_is_exactly_once};
 pub use replays::{ReplayError, refusal_text, replay};
 pub use reply::{Applied, Refusal, Reply};
 pub use world::World;

@@ -20,8 +20,9 @@ pub struct Reply {
 pub enum Applied {
     /// It was done.
     Done,
-    /// It doesn't fit the world: the client is a member's name, the journal isn't the shard's source, or
-    /// the messages are more than an append may have. Nothing has changed.
+    /// It doesn't fit the world: the client is a member's name, the journal isn't the shard's source, the
+    /// messages have more bytes than an append may have, or a key or a value isn't a message's. Nothing has
+    /// changed.
     Unfit,
 }
 

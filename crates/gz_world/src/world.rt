@@ -15,7 +15,7 @@ use std::alloc::Global;
 use std::marker::Model;
 
 /// A cluster over plain lists: its specifications, the replies so far, and its shard. A call that finds
-/// no memory may leave it without its shard; from then on it answers nothing else.
+/// no memory may leave it without its shard; then it isn't used again.
 #[derive(Drop)]
 pub struct World {
     specs: Specs,

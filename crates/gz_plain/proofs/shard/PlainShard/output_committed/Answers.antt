@@ -1,4 +1,4 @@
-use Rattle.std.proofs.Common.{◌≡◌, ◌==◌, ◌∙◌, ap, sym, length, filter, List}
+use Rattle.std.proofs.Common.{◌==◌, ◌∙◌, ap, sym, length, filter, List}
 use Rattle.gz_frame.specs.Messages.{Message, continue_txn}
 use Rattle.gz_plain.proofs.Kept.{accepted_count}
 use Rattle.gz_plain.proofs.shard.PlainShard.output_committed.Goals as goal

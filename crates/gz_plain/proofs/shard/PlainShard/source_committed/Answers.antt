@@ -1,4 +1,4 @@
-use Rattle.std.proofs.Common.{◌≡◌, ◌∙◌, ap, sym, length, List, None}
+use Rattle.std.proofs.Common.{◌∙◌, ap, sym, length, List, None}
 use Rattle.gz_uuid.specs.Producer.{client_octets}
 use Rattle.gz_frame.specs.Messages.{Message}
 use Rattle.gz_plain.specs.Outside.{newer_from}

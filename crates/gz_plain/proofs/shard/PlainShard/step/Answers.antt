@@ -1,6 +1,5 @@
 use Rattle.std.proofs.Common.{◌≡◌, refl, ap, [], length, true, false}
 use Rattle.std.proofs.lemmas.List.{take_rest}
-use Rattle.gz_frame.specs.Messages.{Message}
 use Rattle.gz_plain.specs.Plain.{Plain}
 use Rattle.gz_plain.specs.Shard.{Shard}
 use Rattle.gz_plain.proofs.Scanned.{none_is, some_is, scanned_is}
