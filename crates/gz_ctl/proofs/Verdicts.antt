@@ -1,18 +1,17 @@
 -- What is written of a verdict, and what is answered then.
-use Rattle.std.proofs.Common.{◌≡◌, ◌≢◌, ◌⊎◌, inl, inr, ℕ, List, take, Option, Some, None, Ok, Err, refl, sym, ◌∙◌, subst}
+use Rattle.std.proofs.Common.{◌≡◌, ◌≢◌, ◌⊎◌, inl, inr, Bool, true, false, ℕ, List, Option, Some, None, Ok, Err, refl, sym, ◌∙◌, subst}
 use Rattle.std.specs.Io.KnownBytes.{Appends, IsAtEnd}
 use Rattle.gz_model.specs.Faults.{HasRisen}
 use Rattle.gz_model.specs.Told.{AppendsFront}
 use Rattle.gz_base.specs.declared.exit.Exit.{Exit}
 use Rattle.gz_base.specs.declared.exit.Exit.TheVariants.{Done, Usage, BadInput, ReadFault, WriteFault, FileFault, PeerFault, Refused, Lost, NoMemory, Mismatch, HistoryFull, SpawnFault, BadPeer}
 use Rattle.gz_world.specs.declared.reply.Refusal.{Refusal}
-use Rattle.gz_world.specs.Worlds.{World}
-use Rattle.gz_world.specs.Report.{report_if}
-use Rattle.gz_world.specs.Run.{outcome_of, outcome_from, refusal_text}
+use Rattle.gz_world.specs.Worlds.{World, settled}
+use Rattle.gz_world.specs.Run.{outcome_from, refusal_text}
 use Rattle.gz_world.specs.Told.{HasOutcome}
-use Rattle.gz_plain.specs.ExactlyOnce.{ExactlyOnce}
+use Rattle.gz_plain.specs.ExactlyOnce.{ExactlyOnce, ReadsAll}
 use Rattle.gz_ctl.specs.Commands.{usage_text, read_fault_text}
-use Rattle.gz_ctl.specs.Answers.{IsVerdict, IsReport, IsRefusal, IsText, WritesReport, WritesRefusal, WritesFront, IsAnswer, HasReport, KeepsPromise}
+use Rattle.gz_ctl.specs.Answers.{IsVerdict, IsReport, IsRefusal, IsReplayText, WritesReport, WritesRefusal, WritesFront, IsAnswer, HasReport, KeepsPromise}
 
 -- ---- what is written
 
@@ -24,32 +23,32 @@ refusal_written : (input old new : Option (List ℕ)) (text : List ℕ) → IsRe
 refusal_written None old new text is put = tt
 refusal_written (Some input) old new text is put = (is.0, is.1, rw (← is.2) put)
 
-report_text : (input : Option (List ℕ)) (text : List ℕ) → IsReport input text → IsText input text
-report_text None text is = tt
-report_text (Some input) text is = inl is
+report_text : (input : Option (List ℕ)) (risen : Type 0) (text : List ℕ) → IsReport input text → IsReplayText input risen text
+report_text None risen text is = tt
+report_text (Some input) risen text is = inl is
 
-refused_text : (input : Option (List ℕ)) (text : List ℕ) → IsRefusal input text → IsText input text
-refused_text None text is = tt
-refused_text (Some input) text is = inr (inl is)
+refused_text : (input : Option (List ℕ)) (risen : Type 0) (text : List ℕ) → IsRefusal input text → IsReplayText input risen text
+refused_text None risen text is = tt
+refused_text (Some input) risen text is = inr (inl is)
 
-fault_text : (input : Option (List ℕ)) (text : List ℕ) → text ≡ read_fault_text → IsText input text
-fault_text None text is = tt
-fault_text (Some input) text is = inr (inr (inr is))
+fault_text : (input : Option (List ℕ)) (risen : Type 0) (text : List ℕ) → risen → text ≡ read_fault_text → IsReplayText input risen text
+fault_text None risen text rose is = tt
+fault_text (Some input) risen text rose is = inr (inr (rose, is))
 
-pub usage_front : (input old new : Option (List ℕ)) → AppendsFront old new usage_text → WritesFront input old new
-usage_front None old new front = (usage_text, tt, front)
-usage_front (Some input) old new front = (usage_text, inr (inr (inl refl)), front)
+pub usage_front : (command : Bool) (input old new : Option (List ℕ)) (risen : Type 0) → command ≡ false → AppendsFront old new usage_text → WritesFront command input risen old new
+usage_front true input old new risen no_command front = cc
+usage_front false input old new risen no_command front = (usage_text, refl, front)
 
 -- ---- a verdict
 
 pub no_write_fault : (exit : Exit) (text : List ℕ) (left rest : Option (List ℕ)) (faults risen : ℕ) → IsVerdict exit text left rest faults risen → exit ≢ WriteFault
 no_write_fault exit text left rest faults risen verdict is = subst (λ (e : Exit). IsVerdict e text left rest faults risen) is verdict
 
-text_of : (exit : Exit) (text : List ℕ) (left rest : Option (List ℕ)) (faults risen : ℕ) → IsVerdict exit text left rest faults risen → IsText left text
-text_of Done text left rest faults risen v = report_text left text v.0
+text_of : (exit : Exit) (text : List ℕ) (left rest : Option (List ℕ)) (faults risen : ℕ) → IsVerdict exit text left rest faults risen → IsReplayText left (HasRisen faults risen) text
+text_of Done text left rest faults risen v = report_text left (HasRisen faults risen) text v.0
+text_of BadInput text left rest faults risen v = refused_text left (HasRisen faults risen) text v
+text_of ReadFault text left rest faults risen v = fault_text left (HasRisen faults risen) text v.0 v.1
 text_of Usage text left rest faults risen v = absurd v
-text_of BadInput text left rest faults risen v = refused_text left text v
-text_of ReadFault text left rest faults risen v = fault_text left text v.1
 text_of WriteFault text left rest faults risen v = absurd v
 text_of FileFault text left rest faults risen v = absurd v
 text_of PeerFault text left rest faults risen v = absurd v
@@ -61,9 +60,13 @@ text_of HistoryFull text left rest faults risen v = absurd v
 text_of SpawnFault text left rest faults risen v = absurd v
 text_of BadPeer text left rest faults risen v = absurd v
 
+front_of : (command : Bool) (text : List ℕ) (left old new : Option (List ℕ)) (risen : Type 0) → command ≡ true → IsReplayText left risen text → AppendsFront old new text → WritesFront command left risen old new
+front_of true text left old new risen is_one is front = (text, is, front)
+front_of false text left old new risen is_one is front = cc
+
 -- the text of the verdict was written in part
-pub verdict_front : (exit : Exit) (text : List ℕ) (left rest old new : Option (List ℕ)) (faults risen : ℕ) → IsVerdict exit text left rest faults risen → AppendsFront old new text → WritesFront left old new
-verdict_front exit text left rest old new faults risen v front = (text, text_of exit text left rest faults risen v, front)
+pub verdict_front : (command : Bool) (exit : Exit) (text : List ℕ) (left rest old new : Option (List ℕ)) (faults risen : ℕ) → command ≡ true → IsVerdict exit text left rest faults risen → AppendsFront old new text → WritesFront command left (HasRisen faults risen) old new
+verdict_front command exit text left rest old new faults risen is_one v front = front_of command text left old new (HasRisen faults risen) is_one (text_of exit text left rest faults risen v) front
 
 -- an answer that isn't the write fault is the verdict's
 same_exit : (result exit answer : Exit) → (result ≡ exit) ⊎ (result ≡ WriteFault) → result ≡ answer → (answer ≡ WriteFault → ⊥) → exit ≡ answer
@@ -155,9 +158,10 @@ refusal_is None refusal text outcome is = tt
 refusal_is (Some input) refusal text outcome is = (refusal, outcome, is)
 
 -- the promise of every run is that of this input's
-pub promise_kept : ((lines : List (List ℕ)) (w : World) → outcome_from lines ≡ Ok (Some w) → ExactlyOnce w.shard.producer w.shard.plain) → (left : Option (List ℕ)) → KeepsPromise left
-promise_kept law None = tt
-promise_kept law (Some input) = λ front w begins gives. law front w gives
+pub promise_kept : ((lines : List (List ℕ)) (w : World) → outcome_from lines ≡ Ok (Some w) → ExactlyOnce w.shard.producer w.shard.plain)
+    → ((lines : List (List ℕ)) (w : World) → outcome_from lines ≡ Ok (Some w) → ReadsAll (settled w).shard.plain) → (left : Option (List ℕ)) → KeepsPromise left
+promise_kept law reads None = tt
+promise_kept law reads (Some input) = λ front w begins gives. (law front w gives, reads front w gives)
 
 -- a verdict is neither of these
 pub verdict_no_usage : (result exit : Exit) (text : List ℕ) (left rest : Option (List ℕ)) (faults risen : ℕ) → IsVerdict exit text left rest faults risen → (result ≡ exit) ⊎ (result ≡ WriteFault) → result ≡ Usage → ⊥

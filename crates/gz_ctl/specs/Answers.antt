@@ -1,15 +1,15 @@
 -- What a run of the command answers and writes.
-use Rattle.std.specs.Prelude.{◌≡◌, ℕ, List, ◌⊎◌, Option, Some, None, Ok, Err, ⊤}
+use Rattle.std.specs.Prelude.{◌≡◌, ℕ, List, ◌⊎◌, Bool, true, false, Option, Some, None, Ok, Err, ⊤}
 use Rattle.std.specs.Io.KnownBytes.{Appends, IsAtEnd}
 use Rattle.gz_model.specs.Faults.{HasRisen}
 use Rattle.gz_model.specs.Lines.{lines_of}
 use Rattle.gz_model.specs.Prefix.{IsPrefix}
 use Rattle.gz_model.specs.Told.{AppendsFront}
-use Rattle.gz_plain.specs.ExactlyOnce.{ExactlyOnce}
+use Rattle.gz_plain.specs.ExactlyOnce.{ExactlyOnce, ReadsAll}
 use Rattle.gz_base.specs.declared.exit.Exit.{Exit}
 use Rattle.gz_base.specs.declared.exit.Exit.TheVariants.{Done, Usage, BadInput, ReadFault, WriteFault, FileFault, PeerFault, Refused, Lost, NoMemory, Mismatch, HistoryFull, SpawnFault, BadPeer}
 use Rattle.gz_world.specs.declared.reply.Refusal.{Refusal}
-use Rattle.gz_world.specs.Worlds.{World}
+use Rattle.gz_world.specs.Worlds.{World, settled}
 use Rattle.gz_world.specs.Report.{report_if}
 use Rattle.gz_world.specs.Run.{outcome_of, outcome_from, refusal_text}
 use Rattle.gz_ctl.specs.Commands.{usage_text, read_fault_text}
@@ -24,21 +24,27 @@ abbrev pub WritesRefusal : Option (List ℕ) → Option (List ℕ) → Option (L
 WritesRefusal None old new = ⊤
 WritesRefusal (Some input) old new = (refusal : Refusal) × (outcome_of input ≡ Err refusal) × Appends old new (refusal_text refusal)
 
--- the texts of which a front was written when the writing failed: a report, a refusal, the usage or the read fault
-abbrev pub IsText : Option (List ℕ) → List ℕ → Type 0
-IsText None text = ⊤
-IsText (Some input) text =
-    ((w : Option World) × (outcome_of input ≡ Ok w) × (text ≡ report_if w)) ⊎ (((refusal : Refusal) × (outcome_of input ≡ Err refusal) × (text ≡ refusal_text refusal)) ⊎ ((text ≡ usage_text) ⊎ (text ≡ read_fault_text)))
+-- the texts of which a front was written when the writing failed: the usage, where the words are no command; else a
+-- report, a refusal, or the read fault, where the source's count rose
+abbrev pub IsReplayText : Option (List ℕ) → Type 0 → List ℕ → Type 0
+IsReplayText None risen text = ⊤
+IsReplayText (Some input) risen text =
+    ((w : Option World) × (outcome_of input ≡ Ok w) × (text ≡ report_if w)) ⊎ (((refusal : Refusal) × (outcome_of input ≡ Err refusal) × (text ≡ refusal_text refusal)) ⊎ (risen × (text ≡ read_fault_text)))
 
-abbrev pub WritesFront : Option (List ℕ) → Option (List ℕ) → Option (List ℕ) → Type 0
-WritesFront input old new = (text : List ℕ) × IsText input text × AppendsFront old new text
+abbrev pub IsText : Bool → Option (List ℕ) → Type 0 → List ℕ → Type 0
+IsText false input risen text = text ≡ usage_text
+IsText true input risen text = IsReplayText input risen text
+
+abbrev pub WritesFront : Bool → Option (List ℕ) → Type 0 → Option (List ℕ) → Option (List ℕ) → Type 0
+WritesFront command input risen old new = (text : List ℕ) × IsText command input risen text × AppendsFront old new text
 
 -- The promise: after each front of the lines, the run's shard has taken each committed message of its source once and
--- in order, and readers of its output accept what the application puts out for them.
+-- in order, and readers of its output accept what the application puts out for them; and a settle then leaves nothing
+-- to read.
 abbrev pub KeepsPromise : Option (List ℕ) → Type 0
 KeepsPromise None = ⊤
 KeepsPromise (Some input) =
-    (front : List (List ℕ)) (w : World) → IsPrefix front (lines_of input) → outcome_from front ≡ Ok (Some w) → ExactlyOnce w.shard.producer w.shard.plain
+    (front : List (List ℕ)) (w : World) → IsPrefix front (lines_of input) → outcome_from front ≡ Ok (Some w) → ExactlyOnce w.shard.producer w.shard.plain × ReadsAll (settled w).shard.plain
 
 -- the answers that a replay has
 abbrev pub IsAnswer : Exit → Type 0

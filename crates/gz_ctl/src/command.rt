@@ -8,7 +8,7 @@ ghost use Rattle.gz_ctl.specs.Answers.{IsVerdict, WritesReport, WritesRefusal, W
 
 use gz_base::{Exit, Sink, Source, write_all};
 use gz_label::{Blob, NoMemory};
-use gz_world::{ReplayError, every_run_is_exactly_once, refusal_text, replay};
+use gz_world::{ReplayError, a_settle_reads_all, every_run_is_exactly_once, refusal_text, replay};
 use std::alloc::Global;
 
 const USAGE: &[u8] = b"usage: gazette replay|storm|attach-uuids|journals|shards|serve\n";
@@ -82,9 +82,9 @@ fn judge<S: Source>(alloc: Global, input: &mut S) -> Result<Verdict, NoMemory>
 /// Runs the command that the words are, which so far is `replay -`: it replays the scenario that the
 /// input is, and writes its report. It always returns.
 ///
-/// It answers Usage exactly where the words are no command; BadInput exactly where a line is refused;
-/// ReadFault and WriteFault only where the input's or the output's count of faults rose in this call;
-/// NoMemory where memory ran out, and then nothing was written; else Done.
+/// It answers Usage only where the words are no command, and BadInput only where a line is refused;
+/// ReadFault and WriteFault only where the input's or the output's count of faults rose in this call.
+/// Where memory runs out the answer is NoMemory, and nothing was written. Else it is Done.
 pub fn gazctl<S: Source, K: Sink>(
     alloc: Global,
     words: &[String],
@@ -105,7 +105,7 @@ pub fn gazctl<S: Source, K: Sink>(
 
     // A fault is answered only where it was counted in this call.
     ensures read_fault { result ≡ Exit.ReadFault → HasRisen (S.faults input.old) (S.faults input.new) × Appends (K.held output.old) (K.held output.new) read_fault_text }
-    ensures write_fault { result ≡ Exit.WriteFault → HasRisen (K.faults output.old) (K.faults output.new) × WritesFront (S.left input.old) (K.held output.old) (K.held output.new) }
+    ensures write_fault { result ≡ Exit.WriteFault → HasRisen (K.faults output.old) (K.faults output.new) × WritesFront (is_command (map string_bytes words.now)) (S.left input.old) (HasRisen (S.faults input.old) (S.faults input.new)) (K.held output.old) (K.held output.new) }
 
     // Memory ran out before anything was written.
     ensures no_memory { result ≡ Exit.NoMemory → Keeps (K.held output.old) (K.held output.new) }
@@ -115,14 +115,15 @@ pub fn gazctl<S: Source, K: Sink>(
     ensures complete { is_command (map string_bytes words.now) ≡ true → HasReport (S.left input.old) → (result ≡ Exit.Done) ⊎ ((result ≡ Exit.NoMemory) ⊎ (HasRisen (S.faults input.old) (S.faults input.new) ⊎ HasRisen (K.faults output.old) (K.faults output.new))) }
 {
     every_run_is_exactly_once();
-    if !is_replay(words) {
-        return say(output, USAGE, Exit::Usage);
+    a_settle_reads_all();
+    if is_replay(words) {
+        return match judge(alloc, input) {
+            Ok(verdict) => {
+                let exit = verdict.exit;
+                say(output, verdict.text.as_slice(), exit)
+            }
+            Err(_) => Exit::NoMemory,
+        };
     }
-    match judge(alloc, input) {
-        Ok(verdict) => {
-            let exit = verdict.exit;
-            say(output, verdict.text.as_slice(), exit)
-        }
-        Err(_) => Exit::NoMemory,
-    }
+    say(output, USAGE, Exit::Usage)
 }

@@ -1,36 +1,40 @@
 -- What is answered of a verdict, clause by clause.
-use Rattle.gz_ctl.proofs.Verdicts.{promise_kept, verdict_done, verdict_refused, verdict_fault, verdict_front, verdict_answer, verdict_complete, verdict_no_usage, verdict_no_want}
+use Rattle.std.proofs.Common.{sym, ◌∙◌}
+use Rattle.gz_ctl.proofs.Verdicts.{promise_kept, usage_front, verdict_done, verdict_refused, verdict_fault, verdict_front, verdict_answer, verdict_complete, verdict_no_usage, verdict_no_want}
 use Rattle.gz_ctl.proofs.command.gazctl.Goals as goal
 
-pub returns-then-not-is_replay-clause-exactly_once : goal.returns-then-not-is_replay-clause-exactly_once
-returns-then-not-is_replay-clause-exactly_once g c = promise_kept c.every_run_is_exactly_once.ensures _
-
 pub returns-in-Err-clause-exactly_once : goal.returns-in-Err-clause-exactly_once
-returns-in-Err-clause-exactly_once g c = promise_kept c.every_run_is_exactly_once.ensures _
+returns-in-Err-clause-exactly_once g c = promise_kept c.every_run_is_exactly_once.ensures c.a_settle_reads_all.ensures _
 
 pub returns-in-Ok-clause-exactly_once : goal.returns-in-Ok-clause-exactly_once
-returns-in-Ok-clause-exactly_once g c = promise_kept c.every_run_is_exactly_once.ensures _
+returns-in-Ok-clause-exactly_once g c = promise_kept c.every_run_is_exactly_once.ensures c.a_settle_reads_all.ensures _
 
 pub returns-in-Ok-clause-usage : goal.returns-in-Ok-clause-usage
-returns-in-Ok-clause-usage g c = λ is. absurd (verdict_no_usage _ _ _ _ _ _ _ c.in-Ok.ensures.verdict c.say-in-Ok.ensures.answers is)
+returns-in-Ok-clause-usage g c = λ is. absurd (verdict_no_usage _ _ _ _ _ _ _ c.in-Ok.ensures.verdict c.say.ensures.answers is)
 
 pub returns-in-Ok-clause-done : goal.returns-in-Ok-clause-done
-returns-in-Ok-clause-done g c = verdict_done _ _ _ _ _ _ _ _ _ c.in-Ok.ensures.verdict c.say-in-Ok.ensures.answers (rw c.as_slice.ensures at c.say-in-Ok.ensures.said)
+returns-in-Ok-clause-done g c = verdict_done _ _ _ _ _ _ _ _ _ c.in-Ok.ensures.verdict c.say.ensures.answers (rw c.as_slice.ensures at c.say.ensures.said)
 
 pub returns-in-Ok-clause-bad_input : goal.returns-in-Ok-clause-bad_input
-returns-in-Ok-clause-bad_input g c = verdict_refused _ _ _ _ _ _ _ _ _ c.in-Ok.ensures.verdict c.say-in-Ok.ensures.answers (rw c.as_slice.ensures at c.say-in-Ok.ensures.said)
+returns-in-Ok-clause-bad_input g c = verdict_refused _ _ _ _ _ _ _ _ _ c.in-Ok.ensures.verdict c.say.ensures.answers (rw c.as_slice.ensures at c.say.ensures.said)
 
 pub returns-in-Ok-clause-read_fault : goal.returns-in-Ok-clause-read_fault
-returns-in-Ok-clause-read_fault g c = verdict_fault _ _ _ _ _ _ _ _ _ c.in-Ok.ensures.verdict c.say-in-Ok.ensures.answers (rw c.as_slice.ensures at c.say-in-Ok.ensures.said)
+returns-in-Ok-clause-read_fault g c = verdict_fault _ _ _ _ _ _ _ _ _ c.in-Ok.ensures.verdict c.say.ensures.answers (rw c.as_slice.ensures at c.say.ensures.said)
 
 pub returns-in-Ok-clause-write_fault : goal.returns-in-Ok-clause-write_fault
-returns-in-Ok-clause-write_fault g c = λ is. (c.say-in-Ok.ensures.fault is, verdict_front _ _ _ _ _ _ _ _ c.in-Ok.ensures.verdict (rw c.as_slice.ensures at (c.say-in-Ok.ensures.front is)))
+returns-in-Ok-clause-write_fault g c = λ is. (c.say.ensures.fault is, verdict_front _ _ _ _ _ _ _ _ _ (sym c.is_replay.ensures ∙ c.if-is_replay.true) c.in-Ok.ensures.verdict (rw c.as_slice.ensures at (c.say.ensures.front is)))
 
 pub returns-in-Ok-clause-no_memory : goal.returns-in-Ok-clause-no_memory
-returns-in-Ok-clause-no_memory g c = λ is. absurd (verdict_no_want _ _ _ _ _ _ _ c.in-Ok.ensures.verdict c.say-in-Ok.ensures.answers is)
+returns-in-Ok-clause-no_memory g c = λ is. absurd (verdict_no_want _ _ _ _ _ _ _ c.in-Ok.ensures.verdict c.say.ensures.answers is)
 
 pub returns-in-Ok-clause-answers : goal.returns-in-Ok-clause-answers
-returns-in-Ok-clause-answers g c = verdict_answer _ _ _ _ _ _ _ c.in-Ok.ensures.verdict c.say-in-Ok.ensures.answers
+returns-in-Ok-clause-answers g c = verdict_answer _ _ _ _ _ _ _ c.in-Ok.ensures.verdict c.say.ensures.answers
 
 pub returns-in-Ok-clause-complete : goal.returns-in-Ok-clause-complete
-returns-in-Ok-clause-complete g c = λ command has. verdict_complete _ _ _ _ _ _ _ _ has c.in-Ok.ensures.verdict c.say-in-Ok.ensures.answers c.say-in-Ok.ensures.fault
+returns-in-Ok-clause-complete g c = λ command has. verdict_complete _ _ _ _ _ _ _ _ has c.in-Ok.ensures.verdict c.say.ensures.answers c.say.ensures.fault
+
+pub returns-clause-exactly_once : goal.returns-clause-exactly_once
+returns-clause-exactly_once g c = promise_kept c.every_run_is_exactly_once.ensures c.a_settle_reads_all.ensures _
+
+pub returns-clause-write_fault : goal.returns-clause-write_fault
+returns-clause-write_fault g c = λ is. (c.say-2.ensures.fault is, usage_front _ _ _ _ _ (sym c.is_replay.ensures ∙ c.if-is_replay.false) (c.say-2.ensures.front is))
