@@ -14,5 +14,4 @@ pub fn every_run_is_exactly_once()
 /// committed.
 pub fn a_settle_reads_all()
     ensures { (lines : List (List ℕ)) (w : World) → outcome_from lines ≡ Ok (Some w) → ReadsAll (settled w).shard.plain }
-{
-}
+{}
