@@ -1,12 +1,16 @@
-//! Names and bytes, which contracts see as lists.
+//! Names, bytes and labels, which contracts see as lists.
 #![tactic(auto)]
 
 mod blob;
+mod label;
+mod label_set;
 mod name;
 mod no_memory;
 #[cfg(test)]
 mod tests;
 
 pub use blob::Blob;
+pub use label::{Label, is_label_name, is_label_value};
+pub use label_set::LabelSet;
 pub use name::{LabelError, Name};
 pub use no_memory::NoMemory;

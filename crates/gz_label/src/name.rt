@@ -4,7 +4,7 @@ ghost use Rattle.gz_label.specs.Outcomes.{Gives};
 ghost use Rattle.gz_label.specs.Names.{name_of};
 
 use crate::NoMemory;
-use std::alloc::{AllocError, Global};
+use std::alloc::{AllocError, AllocFailed, Global};
 use std::cmp::Ordering;
 use std::hash::{Hash, Hasher};
 use std::marker::Model;
@@ -28,12 +28,13 @@ impl Model for Name {
     ghost invariant = { λ a. length (string_bytes a.text) ≤ 1024 };
 }
 
-/// Why a text is no name.
+/// Why a text isn't what is read: a name, a set of labels or a selector.
 #[derive(Clone, Copy, Debug, PartialEq, Eq)]
 pub enum LabelError {
-    /// The text isn't UTF-8 from this byte on, counted from 0, or is longer than this many bytes, which are
-    /// 1,024.
+    /// What begins at this byte, counted from 0, isn't what should stand there.
     BadName { at: usize },
+    /// There are more than 64 labels, or more than 64 terms.
+    TooMany,
     /// Memory ran out.
     NoMemory,
 }
@@ -56,6 +57,17 @@ impl From<AllocError> for LabelError {
     ghost from_gives = { λ _ e. e ≡ NoMemory };
 
     fn from(_e: AllocError) -> LabelError {
+        LabelError::NoMemory
+    }
+}
+
+impl<T: Drop> From<AllocFailed<T>> for LabelError {
+    ghost use Rattle.std.specs.Prelude.{◌≡◌};
+    ghost use Rattle.gz_label.specs.declared.name.LabelError.TheVariants.{NoMemory};
+
+    ghost from_gives = { λ _ e. e ≡ NoMemory };
+
+    fn from(_e: AllocFailed<T>) -> LabelError {
         LabelError::NoMemory
     }
 }

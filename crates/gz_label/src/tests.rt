@@ -30,6 +30,7 @@ fn names(rt: HostRuntime) -> Result<(), Fail> {
             Err(LabelError::BadName { at }) => {
                 assert_eq!(rt; place, Some(at), "of {count} and {tail:?}")
             }
+            Err(LabelError::TooMany) => assert!(rt; false),
             Err(LabelError::NoMemory) => return Err(Fail::from(NoMemory)),
         }
     }

@@ -115,7 +115,7 @@ fn name_from(alloc: Global, text: &str) -> Result<Name, FormError>
     match Name::read(alloc, text.as_bytes()) {
         Ok(name) => Ok(name),
         Err(LabelError::NoMemory) => Err(FormError::NoMemory),
-        Err(LabelError::BadName { .. }) => Err(FormError::Unknown),
+        Err(LabelError::BadName { .. } | LabelError::TooMany) => Err(FormError::Unknown),
     }
 }
 
