@@ -15,11 +15,11 @@ label_total = then_total (on_total (λ (l : Label). l.name) nat_list_cmp_total) 
 pub turned : (l m : Label) → label_cmp l m ≡ Greater → label_cmp m l ≡ Less
 turned l m after = rw (label_total.antisymm m l, after) refl
 
-both_left : (b c : Bool) → (b && c) ≡ true → b ≡ true
+pub both_left : (b c : Bool) → (b && c) ≡ true → b ≡ true
 both_left true c both = refl
 both_left false c both = both
 
-both_right : (b c : Bool) → (b && c) ≡ true → c ≡ true
+pub both_right : (b c : Bool) → (b && c) ≡ true → c ≡ true
 both_right true c both = both
 both_right false c both = cc
 
@@ -63,7 +63,7 @@ all_put p l (m ∷ ms) new all =
 fits : (n : ℕ) → n ≤ 64 → nat_le n 64 ≡ true
 fits n few = grind (arith, common_steps)
 
-rising_of_set : (ms : List Label) → is_label_set ms ≡ true → are_rising ms ≡ true
+pub rising_of_set : (ms : List Label) → is_label_set ms ≡ true → are_rising ms ≡ true
 unfolding is_label_set
 rising_of_set ms set = both_left (are_rising ms) (list_all is_label ms) (both_left (are_rising ms && list_all is_label ms) (nat_le (length ms) max_labels) set)
 

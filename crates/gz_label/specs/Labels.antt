@@ -86,3 +86,13 @@ labels_named name set = filter (λ l. bytes_eq l.name name) set
 -- the values of one name, in rising order
 abbrev pub values_of : List ℕ → List Label → List (List ℕ)
 values_of name set = map (λ l. l.value) (labels_named name set)
+
+-- the labels from the first on whose name isn't less
+abbrev pub from_name : List ℕ → List Label → List Label
+from_name name [] = []
+from_name name (l ∷ ls) = if is_lt (slice_cmp nat_cmp l.name name) then from_name name ls else l ∷ ls
+
+-- the labels in front that have the name
+abbrev pub named_front : List ℕ → List Label → List Label
+named_front name [] = []
+named_front name (l ∷ ls) = if bytes_eq l.name name then l ∷ named_front name ls else []

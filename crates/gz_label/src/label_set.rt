@@ -1,8 +1,8 @@
 //! Sets of labels.
-ghost use Rattle.std.specs.Prelude.{◌≡◌, ◌≤◌, [], length, IfOk, OnErr, IsTrue, MatchOption};
+ghost use Rattle.std.specs.Prelude.{◌≡◌, ◌≤◌, [], length, take, drop, IfOk, OnErr, IsTrue, MatchOption};
 ghost use Rattle.std.specs.List.{insert};
 ghost use Rattle.gz_label.specs.Outcomes.{Gives};
-ghost use Rattle.gz_label.specs.Labels.{is_label_set, put_label, with_label};
+ghost use Rattle.gz_label.specs.Labels.{is_label_set, put_label, with_label, labels_named, from_name, named_front};
 
 use crate::{Label, LabelError, NoMemory};
 use std::alloc::Global;
@@ -44,6 +44,36 @@ fn place_of(label: &Label, labels: &[Label]) -> Option<usize>
     Some(labels.len())
 }
 
+/// How many of the rising labels have lesser names.
+fn count_lesser(name: &[u8], labels: &[Label]) -> usize
+    ensures value { drop result labels.now ≡ from_name name.now labels.now }
+    ensures within { result ≤ length labels.now }
+{
+    let mut count = 0;
+    for label in labels {
+        match label.name.as_slice().cmp(name) {
+            Ordering::Less => count += 1,
+            Ordering::Equal | Ordering::Greater => break,
+        }
+    }
+    count
+}
+
+/// How many labels in front have the name.
+fn count_named(name: &[u8], labels: &[Label]) -> usize
+    ensures value { take result labels.now ≡ named_front name.now labels.now }
+    ensures within { result ≤ length labels.now }
+{
+    let mut count = 0;
+    for label in labels {
+        if label.name.as_slice() != name {
+            break;
+        }
+        count += 1;
+    }
+    count
+}
+
 fn copy_labels(alloc: Global, labels: &[Label]) -> Result<Vec<Label>, NoMemory>
     ensures { IfOk result (λ copied. copied.items ≡ labels.now) }
 {
@@ -78,6 +108,17 @@ impl LabelSet {
         ensures valid { IsTrue (is_label_set self.now) }
     {
         self.labels.as_slice()
+    }
+
+    /// The labels of the name, of which there may be none, by value. It takes no memory.
+    #[tactic(auto, using(crate::proofs::Named::named_front_of_set))]
+    pub fn labels_named(&self, name: &[u8]) -> &[Label]
+        ensures { result.now ≡ labels_named name.now self.now }
+    {
+        let labels = self.as_slice();
+        let (_lesser, rest) = labels.split_at(count_lesser(name, labels));
+        let (named, _greater) = rest.split_at(count_named(name, rest));
+        named
     }
 
     /// Puts the label in its place, if it isn't there. BadName{0} where it isn't valid, else TooMany where
