@@ -1,3 +1,7 @@
 pub mod Named
+pub mod Parts
+pub mod Plain
+pub mod Printed
 pub mod Sets
+pub mod Terms
 pub mod Utf8

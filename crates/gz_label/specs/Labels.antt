@@ -1,6 +1,6 @@
 -- Labels, and sets of them.
-use Rattle.std.specs.Prelude.{ℕ, ◌==◌, ◌&&◌, ◌||◌, List, [], ◌∷◌, length, map, filter, Bool, true, not, nat_le, Result, Ok, Err, if◌then◌else◌}
-use Rattle.std.specs.List.{list_all}
+use Rattle.std.specs.Prelude.{ℕ, ◌==◌, ◌&&◌, ◌||◌, List, [], ◌∷◌, length, map, filter, Bool, true, not, nat_le, Option, Some, None, is_some, option_to_list, Result, Ok, Err, if◌then◌else◌, ◌++◌}
+use Rattle.std.specs.List.{list_all, list_any, join_with_byte}
 use Rattle.std.specs.Char.{is_ascii_alphanumeric}
 use Rattle.std.specs.Str.{bytes_eq}
 use Rattle.std.specs.declared.cmp.Ordering.{Ordering}
@@ -8,7 +8,8 @@ use Rattle.std.specs.Ordering.{nat_cmp, ordering_then, match_ordering, is_lt}
 use Rattle.std.specs.Cmp.Lexicographic.{slice_cmp}
 use Rattle.gz_label.specs.declared.label.Label.{Label}
 use Rattle.gz_label.specs.declared.name.LabelError.{LabelError}
-use Rattle.gz_label.specs.declared.name.LabelError.TheVariants.{BadName, TooMany}
+use Rattle.gz_label.specs.declared.name.LabelError.TheVariants.{BadName}
+use Rattle.gz_label.specs.Items.{has_byte, before_byte, after_byte, items_of, first_bad, unless_bad, max_labels, limited, put_all}
 
 -- ---- what a label is
 
@@ -47,10 +48,6 @@ abbrev pub are_rising : List Label → Bool
 are_rising [] = true
 are_rising (l ∷ ls) = comes_before l ls && are_rising ls
 
--- the most labels of a set
-abbrev pub max_labels : ℕ
-max_labels = 64
-
 -- a set is a rising list of at most 64 labels
 unfoldable pub is_label_set : List Label → Bool
 is_label_set ls = are_rising ls && list_all is_label ls && nat_le (length ls) max_labels
@@ -62,16 +59,11 @@ put_label l (m ∷ ms) = match_ordering (label_cmp l m) (l ∷ m ∷ ms) (m ∷ 
 
 -- each of the labels in its place, one after another
 abbrev pub put_labels : List Label → List Label → List Label
-put_labels [] set = set
-put_labels (l ∷ ls) set = put_labels ls (put_label l set)
+put_labels ls set = put_all put_label ls set
 
 -- the labels as a rising list, without those that are there before
 abbrev pub labels_of : List Label → List Label
 labels_of ls = put_labels ls []
-
--- a rising list with no more labels than a set may have
-abbrev pub limited : List Label → Result (List Label) LabelError
-limited ls = if nat_le (length ls) max_labels then Ok ls else Err TooMany
 
 -- the set with the label in its place
 unfoldable pub with_label : Label → List Label → Result (List Label) LabelError
@@ -96,3 +88,62 @@ from_name name (l ∷ ls) = if is_lt (slice_cmp nat_cmp l.name name) then from_n
 abbrev pub named_front : List ℕ → List Label → List Label
 named_front name [] = []
 named_front name (l ∷ ls) = if bytes_eq l.name name then l ∷ named_front name ls else []
+
+-- the label is one of these
+abbrev pub same_label : Label → Label → Bool
+same_label a b = bytes_eq a.name b.name && bytes_eq a.value b.value
+
+abbrev pub has_label : Label → List Label → Bool
+has_label l set = list_any (λ m. same_label m l) set
+
+-- a label of these has the name
+abbrev pub has_name : List ℕ → List Label → Bool
+has_name name set = list_any (λ m. bytes_eq m.name name) set
+
+-- ---- as text
+
+-- `NAME=VALUE`
+abbrev pub spelling : Label → List ℕ
+spelling l = l.name ++ 61 ∷ l.value
+
+-- the labels with a comma between each two
+abbrev pub print_of : List Label → List ℕ
+print_of set = join_with_byte 44 (map spelling set)
+
+-- the labels behind others
+abbrev pub print_more : List Label → List ℕ
+print_more [] = []
+print_more (l ∷ ls) = 44 ∷ (spelling l ++ print_more ls)
+
+-- the label of this name and value, where it is one
+unfoldable pub label_of : List ℕ → List ℕ → Option Label
+label_of name value = if is_label_name name && is_label_value value then Some (record { name = name; value = value }) else None
+
+-- an item says a label where a name stands before its first `=`, and a value after it
+abbrev pub label_in : List ℕ → Option Label
+label_in item = if has_byte 61 item then label_of (before_byte 61 item) (after_byte 61 item) else None
+
+abbrev pub is_label_item : List ℕ → Bool
+is_label_item item = is_some (label_in item)
+
+-- the labels that the items say, in their order
+abbrev pub labels_in : List (List ℕ) → List Label
+labels_in [] = []
+labels_in (item ∷ items) = option_to_list (label_in item) ++ labels_in items
+
+-- The set that a text says. The place is where the first item begins that says no label.
+abbrev pub set_of : List ℕ → Result (List Label) LabelError
+set_of text = unless_bad (first_bad is_label_item 0 (items_of text)) (limited (labels_of (labels_in (items_of text))))
+
+-- ---- taking and adding
+
+-- A label takes itself, and one with an empty value takes all of its name.
+abbrev pub takes : Label → Label → Bool
+takes l t = bytes_eq t.name l.name && (length t.value == 0 || bytes_eq t.value l.value)
+
+abbrev pub is_taken : List Label → Label → Bool
+is_taken take l = list_any (takes l) take
+
+-- first what is taken goes, then what is added comes
+abbrev pub labels_after : List Label → List Label → List Label → List Label
+labels_after set take add = put_labels add (filter (λ l. not (is_taken take l)) set)

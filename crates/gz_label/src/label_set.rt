@@ -1,10 +1,12 @@
 //! Sets of labels.
-ghost use Rattle.std.specs.Prelude.{◌≡◌, ◌≤◌, [], length, take, drop, IfOk, OnErr, IsTrue, MatchOption};
-ghost use Rattle.std.specs.List.{insert};
+ghost use Rattle.std.specs.Prelude.{◌≡◌, ◌≤◌, [], length, take, drop, filter, not, ◌++◌, option_to_list, IfOk, OnOk, OnErr, IsTrue, MatchOption};
+ghost use Rattle.std.specs.List.{insert, list_all};
 ghost use Rattle.gz_label.specs.Outcomes.{Gives};
-ghost use Rattle.gz_label.specs.Labels.{is_label_set, put_label, with_label, labels_named, from_name, named_front};
+ghost use Rattle.gz_label.specs.Labels.{is_label, is_label_set, put_label, put_labels, with_label, labels_named, from_name, named_front, label_in, labels_in, has_label, has_name, set_of, print_of, print_more, spelling, takes, is_taken, labels_after};
+ghost use Rattle.gz_label.specs.Items.{items_of, limited};
 
-use crate::{Label, LabelError, NoMemory};
+use crate::items::{Form, behind, find, first_bad, read_label};
+use crate::{Blob, Label, LabelError, NoMemory};
 use std::alloc::Global;
 use std::cmp::Ordering;
 use std::marker::Model;
@@ -74,6 +76,48 @@ fn count_named(name: &[u8], labels: &[Label]) -> usize
     count
 }
 
+/// Whether the second label takes the first.
+fn takes(label: &Label, taker: &Label) -> bool
+    ensures { result ≡ takes label.now taker.now }
+{
+    let value = taker.value.as_slice();
+    taker.name.as_slice() == label.name.as_slice()
+        && (value.len() == 0 || value == label.value.as_slice())
+}
+
+fn append_label(text: &mut Blob, label: &Label) -> Result<(), NoMemory>
+    ensures { OnOk result (text.new ≡ text.old ++ spelling label.now) }
+{
+    text.append(label.name.as_slice())?;
+    text.append(b"=")?;
+    text.append(label.value.as_slice())?;
+    Ok(())
+}
+
+fn append_more(text: &mut Blob, labels: &[Label]) -> Result<(), NoMemory>
+    ensures { OnOk result (text.new ≡ text.old ++ print_more labels.now) }
+{
+    for label in labels {
+        text.append(b",")?;
+        append_label(text, label)?;
+    }
+    Ok(())
+}
+
+/// The labels that none of the set takes.
+fn copy_untaken(alloc: Global, labels: &[Label], take: &LabelSet) -> Result<Vec<Label>, NoMemory>
+    ensures { IfOk result (λ copied. copied.items ≡ filter (λ l. not (is_taken take.now l)) labels.now) }
+{
+    let mut copied = Vec::new(alloc);
+    for label in labels {
+        if !take.takes(label) {
+            let one = label.copy()?;
+            copied.push(one)?;
+        }
+    }
+    Ok(copied)
+}
+
 fn copy_labels(alloc: Global, labels: &[Label]) -> Result<Vec<Label>, NoMemory>
     ensures { IfOk result (λ copied. copied.items ≡ labels.now) }
 {
@@ -138,6 +182,119 @@ impl LabelSet {
             self.labels.insert(i, label)?;
         }
         Ok(())
+    }
+
+    /// Whether the label is in the set. It takes no memory.
+    pub fn has(&self, label: &Label) -> bool
+        ensures { result ≡ has_label label.now self.now }
+    {
+        self.as_slice().iter().any(|other| other.is_same(label))
+    }
+
+    /// Whether the name has a value. It takes no memory.
+    pub fn has_name(&self, name: &[u8]) -> bool
+        ensures { result ≡ has_name name.now self.now }
+    {
+        self.as_slice()
+            .iter()
+            .any(|other| other.name.as_slice() == name)
+    }
+
+    /// Puts in the label that the item says, if it says one.
+    fn add_item(&mut self, alloc: Global, item: &[u8]) -> Result<(), LabelError>
+        ensures { Gives (λ _. self.new) result (limited (put_labels (option_to_list (label_in item.now)) self.old)) }
+    {
+        let _ = &self.labels;
+        match read_label(alloc, item)? {
+            Some(label) => self.insert(label),
+            None => Ok(()),
+        }
+    }
+
+    /// Puts in the labels that the items of the text say.
+    fn add_items(&mut self, alloc: Global, text: &[u8]) -> Result<(), LabelError>
+        ensures { Gives (λ _. self.new) result (limited (put_labels (labels_in (items_of text.now)) self.old)) }
+    {
+        let mut rest = text;
+        let mut goes_on = text.len() > 0;
+        'items: while goes_on {
+            let end = find(rest, b',');
+            self.add_item(alloc, &rest[..end])?;
+            goes_on = end < rest.len();
+            rest = behind(rest, end);
+        }
+        let _ = &self.labels;
+        Ok(())
+    }
+
+    /// Puts in the labels of the other set.
+    fn add_all(&mut self, labels: &[Label]) -> Result<(), LabelError>
+        requires { IsTrue (list_all is_label labels.now) }
+        ensures { Gives (λ _. self.new) result (limited (put_labels labels.now self.old)) }
+    {
+        for label in labels {
+            let one = label.copy()?;
+            self.insert(one)?;
+        }
+        let _ = &self.labels;
+        Ok(())
+    }
+
+    /// The set that the text says: items `NAME=VALUE` with a comma between each two, or none where the text
+    /// is empty. BadName with the first byte of the first item that is no label, else TooMany where there are
+    /// more than 64 distinct labels.
+    pub fn read(alloc: Global, text: &[u8]) -> Result<LabelSet, LabelError>
+        ensures { Gives (λ set. set) result (set_of text.now) }
+    {
+        if let Some(at) = first_bad(Form::Label, text) {
+            return Err(LabelError::BadName { at });
+        }
+        let mut set = LabelSet::new(alloc);
+        set.add_items(alloc, text)?;
+        Ok(set)
+    }
+
+    /// The items `NAME=VALUE`, by name and then by value, with a comma between each two. Reading gives the
+    /// set back.
+
+    pub fn print(&self) -> Result<Blob, NoMemory>
+        ensures value { IfOk result (λ text. text ≡ print_of self.now) }
+    {
+        let mut text = Blob::new(*self.labels.allocator());
+        match self.as_slice() {
+            [] => Ok(text),
+            [first, rest @ ..] => {
+                append_label(&mut text, first)?;
+                append_more(&mut text, rest)?;
+                Ok(text)
+            }
+        }
+    }
+
+    /// The set after a change: first every label of `take` goes, where one with an empty value takes all of
+    /// its name, then those of `add` come. TooMany where more than 64 would be there.
+    #[tactic(auto, using(crate::proofs::Sets::valid_of_set))]
+    pub fn apply(&self, take: &LabelSet, add: &LabelSet) -> Result<LabelSet, LabelError>
+        ensures value { Gives (λ set. set) result (limited (labels_after self.now take.now add.now)) }
+    {
+        let mut set = self.without(take)?;
+        set.add_all(add.as_slice())?;
+        Ok(set)
+    }
+
+    /// The set without what is taken.
+    fn without(&self, take: &LabelSet) -> Result<LabelSet, NoMemory>
+        ensures { IfOk result (λ set. set ≡ filter (λ l. not (is_taken take.now l)) self.now) }
+    {
+        let labels = copy_untaken(*self.labels.allocator(), self.labels.as_slice(), take)?;
+        Ok(LabelSet { labels })
+    }
+
+    /// Whether one of these takes the label.
+    fn takes(&self, label: &Label) -> bool
+        ensures { result ≡ is_taken self.now label.now }
+    {
+        self.as_slice().iter().any(|taker| takes(label, taker))
     }
 
     /// An equal value.
