@@ -1,0 +1,2 @@
+pub mod JournalList
+pub mod Places

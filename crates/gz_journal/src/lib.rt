@@ -1,0 +1,10 @@
+//! A journal: a list of entries, to which requests append as they are judged.
+#![tactic(auto)]
+
+mod journal;
+mod judgement;
+mod request;
+
+pub use journal::JournalState;
+pub use judgement::{Judged, Landed, judge};
+pub use request::Request;
