@@ -4,6 +4,8 @@
 mod journal;
 mod judgement;
 mod request;
+#[cfg(test)]
+mod tests;
 
 pub use journal::JournalState;
 pub use judgement::{Judged, Landed, judge};
