@@ -2,6 +2,7 @@
 ghost use Rattle.std.specs.Prelude.{◌≡◌, IfOk};
 
 use crate::{Blob, Name, NoMemory};
+use std::alloc::Global;
 use std::marker::Model;
 
 /// One write of a transaction: the key's new value, or none where the key is deleted.
@@ -84,15 +85,23 @@ impl Writes {
         self.items.as_slice()
     }
 
+    /// Copies of these.
+    pub fn of(alloc: Global, slice: &[KeyWrite]) -> Result<Writes, NoMemory>
+        ensures { IfOk result (λ writes. writes ≡ slice.now) }
+    {
+        let mut items = Vec::new(alloc);
+        for item in slice {
+            items.push(item.copy()?)?;
+        }
+        Ok(Writes { items })
+    }
+
     /// An equal value.
     pub fn copy(&self) -> Result<Writes, NoMemory>
         ensures { IfOk result (λ writes. writes ≡ self.now) }
     {
-        let mut items = Vec::new(*self.items.allocator());
-        for item in &self.items {
-            items.push(item.copy()?)?;
-        }
-        Ok(Writes { items })
+        let copied = Writes::of(*self.items.allocator(), self.items.as_slice())?;
+        Ok(copied)
     }
 }
 
@@ -152,14 +161,22 @@ impl Changes {
         self.items.as_slice()
     }
 
+    /// Copies of these.
+    pub fn of(alloc: Global, slice: &[Change]) -> Result<Changes, NoMemory>
+        ensures { IfOk result (λ changes. changes ≡ slice.now) }
+    {
+        let mut items = Vec::new(alloc);
+        for item in slice {
+            items.push(item.copy()?)?;
+        }
+        Ok(Changes { items })
+    }
+
     /// An equal value.
     pub fn copy(&self) -> Result<Changes, NoMemory>
         ensures { IfOk result (λ changes. changes ≡ self.now) }
     {
-        let mut items = Vec::new(*self.items.allocator());
-        for item in &self.items {
-            items.push(item.copy()?)?;
-        }
-        Ok(Changes { items })
+        let copied = Changes::of(*self.items.allocator(), self.items.as_slice())?;
+        Ok(copied)
     }
 }

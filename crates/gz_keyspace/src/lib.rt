@@ -1,0 +1,12 @@
+//! A space of keys with revisions, compare-and-put transactions and leases, and mirrors of it.
+#![tactic(auto)]
+
+mod error;
+mod keyspace;
+mod table;
+#[cfg(test)]
+mod tests;
+
+pub use error::KeyError;
+pub use keyspace::KeySpace;
+pub use table::Held;
