@@ -3,10 +3,13 @@
 
 mod error;
 mod keyspace;
+mod mirror;
+mod rows;
 mod table;
 #[cfg(test)]
 mod tests;
 
 pub use error::KeyError;
 pub use keyspace::KeySpace;
+pub use mirror::Mirror;
 pub use table::Held;
