@@ -1,3 +1,4 @@
 pub mod KeyLemmas
+pub mod MirrorLemmas
 pub mod RowLemmas
 pub mod SpaceLemmas

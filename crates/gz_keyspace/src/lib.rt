@@ -3,6 +3,7 @@
 
 mod error;
 mod keyspace;
+mod laws;
 mod mirror;
 mod rows;
 mod table;
@@ -11,5 +12,6 @@ mod tests;
 
 pub use error::KeyError;
 pub use keyspace::KeySpace;
+pub use laws::mirrors_agree;
 pub use mirror::Mirror;
 pub use table::Held;
