@@ -43,7 +43,7 @@ module _ (key : List ℕ) (held : Held) (k : List ℕ) where
   beside Greater e es rest is ih =
       ap (cond (same_key k e.0) (Some e.1)) ih
       ∙ exchanged (same_key key k) (same_key k e.0) (Some held) (Some e.1) (held_at k es)
-          (λ both. sym (same_laws.congr key k e.0 both) ∙ sym (differ key e.0 Greater is))
+      (λ both. sym (same_laws.congr key k e.0 both) ∙ sym (differ key e.0 Greater is))
 
   -- after a put the key has this, and each other key what it had
   pub held_at-put : (keys : KeyMap) → held_at k (put key held keys) ≡ cond (same_key key k) (Some held) (held_at k keys)
@@ -53,10 +53,10 @@ module _ (key : List ℕ) (held : Held) (k : List ℕ) where
 deleted : (key k : List ℕ) (keys : KeyMap) (b : Bool) → b ≡ same_key key k → held_at k (delete key keys) ≡ cond b None (held_at k keys)
 deleted key k keys true is =
     lookup-filter-keys (same_key k) (λ q. not (same_key key q)) false
-      (λ q same. ap not (sym (same_laws.congr k key q (same_laws.symm k key ∙ sym is)) ∙ same)) keys
+    (λ q same. ap not (sym (same_laws.congr k key q (same_laws.symm k key ∙ sym is)) ∙ same)) keys
 deleted key k keys false is =
     lookup-filter-keys (same_key k) (λ q. not (same_key key q)) true
-      (λ q same. ap not (same_laws.symm key q ∙ sym (same_laws.congr k q key same) ∙ same_laws.symm k key ∙ sym is)) keys
+    (λ q same. ap not (same_laws.symm key q ∙ sym (same_laws.congr k q key same) ∙ same_laws.symm k key ∙ sym is)) keys
 
 -- after a delete the key has nothing, and each other key what it had
 pub held_at-delete : (key k : List ℕ) (keys : KeyMap) → held_at k (delete key keys) ≡ cond (same_key key k) None (held_at k keys)

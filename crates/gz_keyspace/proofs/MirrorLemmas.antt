@@ -68,7 +68,7 @@ given_all : (changes some : List Change) (m : Mirrored) → IsNumbered changes �
 given_all changes [] m all mirror among = mirror
 given_all changes (c ∷ cs) m all mirror among =
     given_all changes cs (applied c m) all
-      (applied_one changes m among.0.0 c (c.revision == m.revision + 1) refl all among.0.1 mirror) among.1
+    (applied_one changes m among.0.0 c (c.revision == m.revision + 1) refl all among.0.1 mirror) among.1
 
 front_of : (xs ys : List Change) (n : ℕ) → n ≤ length xs → take n (xs ++ ys) ≡ take n xs
 front_of [] ys zero within = refl
@@ -82,9 +82,9 @@ all_taken (x ∷ xs) = ap (λ rest. x ∷ rest) (all_taken xs)
 
 pub mirror_law : (changes : List Change) → IsNumbered changes → MirrorLaw changes
 mirror_law changes all = record {
-    new = sym (at_revision changes 0 all);
-    whole = sym (at_revision changes (length changes) all ∙ ap keys_after (all_taken changes));
-    given = λ m some mirror among. given_all changes some m all mirror among;
-    goes_on = λ m more within numbered mirror.
-        mirror ∙ at_revision changes m.revision all ∙ sym (at_revision (changes ++ more) m.revision numbered ∙ ap keys_after (front_of changes more m.revision within));
-  }
+  new = sym (at_revision changes 0 all);
+  whole = sym (at_revision changes (length changes) all ∙ ap keys_after (all_taken changes));
+  given = λ m some mirror among. given_all changes some m all mirror among;
+  goes_on = λ m more within numbered mirror.
+      mirror ∙ at_revision changes m.revision all ∙ sym (at_revision (changes ++ more) m.revision numbered ∙ ap keys_after (front_of changes more m.revision within));
+}

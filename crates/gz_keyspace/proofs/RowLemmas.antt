@@ -15,7 +15,7 @@ use Rattle.gz_keyspace.specs.Keys.{same_key, KeyMap, held_at, put, delete}
 use Rattle.gz_keyspace.specs.Mirrors.{IsAbove, IsRising}
 use Rattle.gz_keyspace.specs.Rows.{row_at, IsAt, IsGap}
 
-abbrev order : List ℕ → List ℕ → Ordering
+abbrev pub order : List ℕ → List ℕ → Ordering
 order = slice_cmp nat_cmp
 
 laws : IsTotalOrder order
@@ -23,12 +23,15 @@ laws = nat_list_cmp_total
 
 -- ---- two keys
 
-turned : (a b : List ℕ) (o : Ordering) → order a b ≡ o → order b a ≡ ordering_reverse o
+pub turned : (a b : List ℕ) (o : Ordering) → order a b ≡ o → order b a ≡ ordering_reverse o
 turned a b o is = laws.antisymm b a ∙ ap ordering_reverse is
 
 -- equal by the order is equal
 pub same_from_order : (a b : List ℕ) → order a b ≡ Equal → a ≡ b
 same_from_order a b is = (bytes_decides a b).0 (texts_ties a b ∙ ap is_eq is)
+
+pub same_from_test : (a b : List ℕ) → same_key a b ≡ true → a ≡ b
+same_from_test a b is = (bytes_decides a b).0 is
 
 itself : (a : List ℕ) → order a a ≡ Equal
 itself a = tied_itself laws a
@@ -39,7 +42,7 @@ apart a b o is = texts_ties a b ∙ ap is_eq is
 
 -- ---- keys above one
 
-above_all : (a b : List ℕ) (rows : KeyMap) → order a b ≡ Less → IsAbove b rows → IsAbove a rows
+pub above_all : (a b : List ℕ) (rows : KeyMap) → order a b ≡ Less → IsAbove b rows → IsAbove a rows
 above_all a b [] less above = tt
 above_all a b (e ∷ es) less above = (laws.trans a b e.0 less above.0, above_all a b es less above.1)
 
@@ -117,15 +120,17 @@ comparisons_rise key rows rising = IsNonDecreasingBy-from_default (λ row. order
 pub searched : (key : List ℕ) (rows : KeyMap) → IsRising rows → (r : Result ℕ ℕ) → IsSearchInRange r (length rows) → IsBinarySearchResult (λ row. order row.0 key) rows r
     → record { found : IfOk r (IsAt key rows); absent : IfErr r (IsGap key rows) }
 searched key rows rising (Ok at) within equal = record {
-    found = record { within = within; has_key = same_from_order (row_at rows at).0 key (equal ([], record { value = []; mod_revision = 0 })) };
-    absent = tt }
+  found = record { within = within; has_key = same_from_order (row_at rows at).0 key (equal ([], record { value = []; mod_revision = 0 })) };
+  absent = tt;
+}
 searched key rows rising (Err at) within parted = record {
-    found = tt;
-    absent = record {
-      within = within;
-      less = λ i less. (parted (comparisons_rise key rows rising)).0 i ([], record { value = []; mod_revision = 0 }) (omega arith) less;
-      greater = λ i least below. (parted (comparisons_rise key rows rising)).1 i ([], record { value = []; mod_revision = 0 }) least below;
-    } }
+  found = tt;
+  absent = record {
+    within = within;
+    less = λ i less. (parted (comparisons_rise key rows rising)).0 i ([], record { value = []; mod_revision = 0 }) (omega arith) less;
+    greater = λ i least below. (parted (comparisons_rise key rows rising)).1 i ([], record { value = []; mod_revision = 0 }) least below;
+  };
+}
 
 -- ---- an edit at the place that was found
 
@@ -162,13 +167,13 @@ put_in_gap key held rows i gap = put_between key held rows i gap.within gap.less
 -- ---- a key that isn't there
 
 -- no row has the key
-abbrev HasNone : List ℕ → KeyMap → Type 0
+abbrev pub HasNone : List ℕ → KeyMap → Type 0
 HasNone key rows = (i : ℕ) → i < length rows → same_key key (row_at rows i).0 ≡ false
 
 none_after : (key : List ℕ) (e : List ℕ × Held) (es : KeyMap) → HasNone key (e ∷ es) → HasNone key es
 none_after key e es none i within = none (suc i) (omega (arith, within))
 
-none_above : (key : List ℕ) (rows : KeyMap) → IsAbove key rows → HasNone key rows
+pub none_above : (key : List ℕ) (rows : KeyMap) → IsAbove key rows → HasNone key rows
 none_above key rows above i within = apart key (row_at rows i).0 Less (above_at key rows i above within)
 
 none_in_gap : (key : List ℕ) (rows : KeyMap) (place : ℕ) → IsGap key rows place → HasNone key rows
@@ -197,7 +202,7 @@ delete_found key (e ∷ es) (suc i) rising within has_key =
     ap (λ rows. e ∷ rows) (delete_found key es i rising.1 there has_key)
     ∙ sym (ap (λ b. cond (not b) (e ∷ delete key es) (delete key es)) (apart key e.0 Greater (below_key e es key i rising.0 there has_key)))
 
-held_none : (key : List ℕ) (rows : KeyMap) → HasNone key rows → held_at key rows ≡ None
+pub held_none : (key : List ℕ) (rows : KeyMap) → HasNone key rows → held_at key rows ≡ None
 held_none key [] none = refl
 held_none key (e ∷ es) none =
     ap (λ b. cond b (Some e.1) (held_at key es)) (none 0 (omega arith)) ∙ held_none key es (none_after key e es none)

@@ -43,15 +43,16 @@ pub kept : (old new : List Change) (ws : List KeyWrite) (had got : List ℕ → 
 kept old new ws had got revision was answer more puts_is =
     let long : length (with_change ws old) ≡ length old + 1 = length-append old _ in
     let now : length new ≡ length old + 1 = ap length more ∙ long in
-    let below : length old ≢ last_revision = not_last (length old) revision (length old == last_revision) refl answer in
-    (λ key.
-        puts_is key
-        ∙ ap (λ n. puts key (prepared_of n ws) (had key)) now
-        ∙ ap (puts key (prepared_of (length old + 1) ws)) (was.0 key)
-        ∙ one_more old (record { revision = length old + 1; writes = ws }) key
-        ∙ ap (λ cs. held_at key (keys_after cs)) (sym more),
-     subst IsNumbered (sym more) (numbered old ws was.1),
-     omega (arith, now, below, was.2))
+    let below : length old ≢ last_revision = not_last (length old) revision (length old == last_revision) refl answer in (
+      λ key.
+          puts_is key
+          ∙ ap (λ n. puts key (prepared_of n ws) (had key)) now
+          ∙ ap (puts key (prepared_of (length old + 1) ws)) (was.0 key)
+          ∙ one_more old (record { revision = length old + 1; writes = ws }) key
+          ∙ ap (λ cs. held_at key (keys_after cs)) (sym more),
+      subst IsNumbered (sym more) (numbered old ws was.1),
+      omega (arith, now, below, was.2),
+    )
 
 -- Where the lease of a key is taken away, the key has none.
 pub lease_gone : (key : List ℕ) (leases : Leases) → IsDistinct same_key (keys_of leases) → lookup (same_key key) (without key leases) ≡ None
@@ -84,7 +85,7 @@ pub lease_gone_after : (key kept : List ℕ) (value : Option (List ℕ)) (ws : L
 lease_gone_after key kept value ws start mid leases distinct kept_is ws_is mid_is more =
     let P : List ℕ → Type 0 = λ k. lookup (same_key k) leases ≡ None in
     subst P (sym kept_is)
-      (ap (lookup (same_key key)) (more ∙ ap (λ w. without_written w mid) ws_is ∙ ap (without key) mid_is) ∙ lease_gone key start distinct)
+    (ap (lookup (same_key key)) (more ∙ ap (λ w. without_written w mid) ws_is ∙ ap (without key) mid_is) ∙ lease_gone key start distinct)
 
 pub on_ok : {X E : Type 0} (r : Result X E) (P : Type 0) → IsOk r → OnOk r P → P
 on_ok (Ok x) P ok fact = fact

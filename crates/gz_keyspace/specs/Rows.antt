@@ -1,6 +1,6 @@
 -- Rows in the order of their keys, as a vector has them.
-use Rattle.std.specs.Prelude.{◌≡◌, ℕ, ◌<◌, ◌≤◌, List, [], ◌∷◌, length, fold, Option, Some, None, slice_index_or}
-use Rattle.std.specs.Ordering.{nat_cmp}
+use Rattle.std.specs.Prelude.{◌≡◌, ℕ, ◌<◌, ◌≤◌, List, [], ◌∷◌, length, fold, Bool, Option, Some, None, slice_index_or}
+use Rattle.std.specs.Ordering.{nat_cmp, is_lt}
 use Rattle.std.specs.declared.cmp.Ordering.{Ordering}
 use Rattle.std.specs.declared.cmp.Ordering.TheVariants.{Less, Greater}
 use Rattle.std.specs.Cmp.Lexicographic.{slice_cmp}
@@ -11,6 +11,10 @@ use Rattle.gz_keyspace.specs.Keys.{KeyMap, put, delete}
 -- the row at a place, where there is one
 abbrev pub row_at : KeyMap → ℕ → List ℕ × Held
 row_at rows place = slice_index_or rows place ([], record { value = []; mod_revision = 0 })
+
+-- the first row's key is less
+abbrev pub is_less : List ℕ × Held → List ℕ × Held → Bool
+is_less a b = is_lt (slice_cmp nat_cmp a.0 b.0)
 
 -- the key's row is at this place
 pub record IsAt (key : List ℕ) (rows : KeyMap) (place : ℕ) : Type 0 where

@@ -7,8 +7,9 @@ ghost use Rattle.gz_keyspace.specs.Table.{prepared_of, puts};
 ghost use Rattle.gz_keyspace.specs.Space.{Space, revision_of, next_revision, with_change, without_written, compared, key_of_lease, txn_answer, after_txn, grant_answer, after_grant, expire_answer, after_expire};
 ghost use Rattle.gz_keyspace.specs.Outcomes.{Gives};
 
-use crate::table::{Held, prepare, put_all};
 use crate::KeyError;
+use crate::rows::{copy_rows, sort_rows};
+use crate::table::{Held, prepare, put_all};
 use gz_label::{Blob, Change, Changes, Compare, KeyWrite, Name, NoMemory, Writes};
 use indexmap::IndexMap;
 use std::alloc::Global;
@@ -110,6 +111,15 @@ impl KeySpace {
             None => None,
             Some(held) => Some((&held.value, held.mod_revision)),
         }
+    }
+
+    /// The keys with what each has, copied, in the order of the keys.
+    pub(crate) fn rows(&self) -> Result<Vec<(Name, Held)>, NoMemory>
+        ensures { IfOk result (λ rows. rows.items ≡ keys_after self.now.changes) }
+    {
+        let mut rows = copy_rows(*self.tables.changes.allocator(), &self.tables.keys)?;
+        sort_rows(&mut rows);
+        Ok(rows)
     }
 
     // The revision of the change that put the key, 0 where the key is absent.

@@ -9,5 +9,4 @@ ghost use Rattle.gz_keyspace.specs.Mirrors.{MirrorLaw};
 #[tactic(auto, using(crate::proofs::MirrorLemmas::mirror_law))]
 pub fn mirrors_agree()
     ensures { (changes : List Change) → IsNumbered changes → MirrorLaw changes }
-{
-}
+{}

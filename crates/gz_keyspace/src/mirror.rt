@@ -1,13 +1,14 @@
 //! Mirrors of a space of keys.
 ghost use Rattle.std.specs.Prelude.{◌≡◌, [], OnOk, OnErr, IfOk, option_map, slice_get};
-ghost use Rattle.gz_keyspace.specs.Keys.{held_at};
+ghost use Rattle.gz_keyspace.specs.Keys.{held_at, keys_after};
+ghost use Rattle.gz_keyspace.specs.Space.{revision_of};
 ghost use Rattle.gz_keyspace.specs.Mirrors.{Mirrored, IsRising, apply_answer, applied};
 ghost use Rattle.gz_keyspace.specs.Outcomes.{Gives};
 
 use crate::rows::{find, put_rows};
 use crate::table::{Held, prepare};
-use crate::KeyError;
-use gz_label::{Blob, Change, Name};
+use crate::{KeyError, KeySpace};
+use gz_label::{Blob, Change, Name, NoMemory};
 use std::alloc::Global;
 use std::marker::Model;
 
@@ -38,6 +39,16 @@ impl Mirror {
             revision: 0,
             rows: Vec::new(alloc),
         }
+    }
+
+    /// A copy of the key space's keys, at its revision.
+    pub fn of(keys: &KeySpace) -> Result<Mirror, NoMemory>
+        ensures { IfOk result (λ mirror. mirror ≡ record { revision = revision_of keys.now.changes; keys = keys_after keys.now.changes }) }
+    {
+        Ok(Mirror {
+            revision: keys.revision(),
+            rows: keys.rows()?,
+        })
     }
 
     /// The revision. It takes no memory.

@@ -3,12 +3,16 @@ ghost use Rattle.std.specs.Prelude.{◌≡◌, ◌+◌, ◌<◌, ◌≤◌, IfOk
 ghost use Rattle.std.specs.Ordering.{nat_cmp};
 ghost use Rattle.std.specs.Cmp.Lexicographic.{slice_cmp};
 ghost use Rattle.std.specs.VecDeque.{deque_len};
-ghost use Rattle.gz_keyspace.specs.Keys.{put, delete, held_at};
+ghost use Rattle.gz_keyspace.specs.Keys.{put, delete, held_at, same_key};
+ghost use Rattle.std.specs.List.Sorted.{IsPermutation, IsSortedBy};
+ghost use Rattle.indexmap.specs.IndexMap.{IsUnique};
 ghost use Rattle.gz_keyspace.specs.Mirrors.{IsRising};
-ghost use Rattle.gz_keyspace.specs.Rows.{IsAt, IsGap, after_prepared};
+ghost use Rattle.gz_keyspace.specs.Rows.{IsAt, IsGap, after_prepared, is_less};
 
 use crate::table::{Held, Prepared};
-use gz_label::Name;
+use gz_label::{Name, NoMemory};
+use indexmap::IndexMap;
+use std::alloc::Global;
 use std::cmp::Ordering;
 use std::collections::VecDeque;
 
@@ -78,4 +82,26 @@ pub fn put_rows(rows: &mut Vec<(Name, Held)>, mut prepared: VecDeque<Prepared>)
             None => delete_row(rows, &key),
         }
     }
+}
+
+/// The entries of the table, copied, in its order.
+pub fn copy_rows(alloc: Global, table: &IndexMap<Name, Held>) -> Result<Vec<(Name, Held)>, NoMemory>
+    ensures value { IfOk result (λ rows. rows.items ≡ table.now.entries) }
+    ensures unique { IsUnique same_key table.now }
+{
+    let mut rows = Vec::with_capacity(alloc, table.len())?;
+    for place in 0..table.len() {
+        let (key, held) = table.get_index(place).unwrap();
+        let row = (key.copy()?, held.copy()?);
+        rows.push(row)?;
+    }
+    Ok(rows)
+}
+
+/// Sorts the rows by their keys. It takes no memory.
+pub fn sort_rows(rows: &mut Vec<(Name, Held)>)
+    ensures permutation { IsPermutation rows.old.items rows.new.items }
+    ensures sorted { IsSortedBy is_less rows.new.items }
+{
+    rows.sort_unstable_by(|a, b| a.0.cmp(&b.0));
 }

@@ -15,7 +15,7 @@ pub returns-in-Ok-clause-ordered : goal.returns-in-Ok-clause-ordered
 returns-in-Ok-clause-ordered c =
     let at = subst (λ (rows : KeyMap). IsAt c.args.key rows c.in-Ok.place) c.as_slice.ensures.value c.in-Ok.ensures.found in
     subst IsRising (sym (put_found c.args.key c.args.held c.args.rows.now.items c.in-Ok.place c.requires.ordered at.within at.has_key))
-        (rising_put c.args.key c.args.held c.args.rows.now.items c.requires.ordered)
+    (rising_put c.args.key c.args.held c.args.rows.now.items c.requires.ordered)
 
 pub returns-in-Err-clause-value : goal.returns-in-Err-clause-value
 returns-in-Err-clause-value c =
@@ -28,6 +28,6 @@ pub returns-in-Err-clause-ordered : goal.returns-in-Err-clause-ordered
 returns-in-Err-clause-ordered c =
     let gap = subst (λ (rows : KeyMap). IsGap c.args.key rows c.in-Err.place) c.as_slice.ensures.value c.in-Err.ensures.absent in
     let is = c.insert.ensures.items
-        ∙ ap (λ r. cond (is_ok r) (insert c.args.rows.now.items c.in-Err.place (c.args.key, c.args.held)) c.args.rows.now.items) c.unwrap.ensures
-        ∙ put_in_gap c.args.key c.args.held c.args.rows.now.items c.in-Err.place gap in
+    ∙ ap (λ r. cond (is_ok r) (insert c.args.rows.now.items c.in-Err.place (c.args.key, c.args.held)) c.args.rows.now.items) c.unwrap.ensures
+    ∙ put_in_gap c.args.key c.args.held c.args.rows.now.items c.in-Err.place gap in
     subst IsRising (sym is) (rising_put c.args.key c.args.held c.args.rows.now.items c.requires.ordered)
