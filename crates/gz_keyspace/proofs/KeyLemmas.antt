@@ -1,17 +1,14 @@
 -- What a key has after puts, deletes and changes.
-use Rattle.std.proofs.Common.{◌≡◌, ℕ, ◌+◌, List, [], ◌∷◌, ◌++◌, Bool, true, false, cond, not, refl, ap, sym, ◌∙◌, Option, Some, None, option_map, true≢false, subst, filter}
+use Rattle.std.proofs.Common.{◌≡◌, ℕ, List, [], ◌∷◌, ◌++◌, Bool, true, false, cond, not, refl, ap, sym, ◌∙◌, Option, Some, None}
 use Rattle.std.specs.Cmp.{IsEquivalence}
 use Rattle.std.specs.Cmp.Lexicographic.{slice_cmp, nat_list_eq_equiv, texts_ties}
-use Rattle.std.specs.Ordering.{nat_cmp, match_ordering, is_eq, eq_by_cmp}
+use Rattle.std.specs.Ordering.{nat_cmp, match_ordering, is_eq}
 use Rattle.std.specs.declared.cmp.Ordering.{Ordering}
 use Rattle.std.specs.declared.cmp.Ordering.TheVariants.{Less, Equal, Greater}
-use Rattle.std.specs.Map.{lookup}
-use Rattle.std.specs.BTreeMap.{insert_entry}
 use Rattle.std.proofs.lemmas.Map.Entries.{lookup-filter-keys}
 use Rattle.gz_label.specs.declared.keys.KeyWrite.{KeyWrite}
 use Rattle.gz_label.specs.declared.keys.Change.{Change}
 use Rattle.gz_keyspace.specs.declared.table.Held.{Held}
-use Rattle.gz_keyspace.specs.declared.table.Prepared.{Prepared}
 use Rattle.gz_keyspace.specs.Keys.{same_key, KeyMap, held_at, put, delete, after_value, after_writes, after_changes, keys_after}
 use Rattle.gz_keyspace.specs.Table.{puts, prepared_of, prepared_value}
 

@@ -1,9 +1,8 @@
 -- Mirrors stay mirrors.
-use Rattle.std.proofs.Common.{◌≡◌, ◌≢◌, ℕ, zero, suc, ◌+◌, ◌==◌, ◌<◌, ◌≤◌, List, [], ◌∷◌, ◌++◌, Bool, true, false, cond, refl, ap, sym, ◌∙◌, Option, Some, None, length, filter, take, slice_get, nat_le, arith, eq-eqb, subst, true≢false, is_some, unwrap_or}
+use Rattle.std.proofs.Common.{◌≡◌, ℕ, zero, suc, ◌+◌, ◌==◌, ◌≤◌, List, [], ◌∷◌, ◌++◌, Bool, true, false, cond, refl, ap, sym, ◌∙◌, Option, Some, length, filter, take, slice_get, nat_le, arith, true≢false, is_some, unwrap_or}
 use Rattle.std.proofs.lemmas.Bool.Decides.{nat_tests}
 use Rattle.gz_label.specs.declared.keys.Change.{Change}
-use Rattle.gz_keyspace.specs.Keys.{KeyMap, after_writes, keys_after, keys_at, IsNumbered, IsNumberedFrom}
-use Rattle.gz_keyspace.specs.Space.{revision_of}
+use Rattle.gz_keyspace.specs.Keys.{after_writes, keys_after, keys_at, IsNumbered, IsNumberedFrom}
 use Rattle.gz_keyspace.specs.Mirrors.{Mirrored, applied, after_given, IsMirrorOf, AreAmong, MirrorLaw}
 use Rattle.gz_keyspace.proofs.KeyLemmas.{after_changes-snoc}
 

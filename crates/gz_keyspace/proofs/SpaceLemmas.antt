@@ -1,7 +1,7 @@
 -- What stays true of a space of keys.
-use Rattle.std.proofs.Common.{◌≡◌, ◌≢◌, ℕ, ◌+◌, ◌==◌, ◌<◌, ◌≤◌, List, [], ◌∷◌, ◌++◌, Bool, true, false, cond, refl, ap, sym, ◌∙◌, Option, Some, None, Result, Ok, Err, length, filter, drop, add-zero, add-one, slice_get, nat_lt, nat_eq, arith, eq-eqb, lt-ltb, true≢false, subst, unwrap_or, zero, suc, is_ok, is_some, IsOk, OnOk}
+use Rattle.std.proofs.Common.{◌≡◌, ◌≢◌, ℕ, ◌+◌, ◌==◌, ◌<◌, ◌≤◌, List, [], ◌∷◌, ◌++◌, Bool, true, false, cond, refl, ap, sym, ◌∙◌, Option, Some, None, Result, Ok, Err, length, filter, drop, add-one, slice_get, nat_lt, arith, eq-eqb, lt-ltb, true≢false, subst, unwrap_or, zero, suc, is_ok, is_some, IsOk, OnOk}
 use Rattle.std.proofs.lemmas.Bool.Decides.{nat_tests}
-use Rattle.std.specs.Map.{lookup, remove_entry, keys_of}
+use Rattle.std.specs.Map.{lookup, keys_of}
 use Rattle.std.specs.List.{IsDistinct}
 use Rattle.std.proofs.lemmas.Map.{lookup-remove_entry}
 use Rattle.std.proofs.lemmas.List.{length-append}

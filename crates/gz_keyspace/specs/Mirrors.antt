@@ -1,13 +1,11 @@
 -- Mirrors of a space of keys.
-use Rattle.std.specs.Prelude.{◌≡◌, ℕ, ◌+◌, ◌==◌, ◌<◌, ◌≤◌, ◌++◌, List, [], ◌∷◌, length, fold, Bool, true, false, Option, Some, None, Result, Ok, Err, if◌then◌else◌, nat_le, slice_get, slice_index_or, ⊤}
+use Rattle.std.specs.Prelude.{◌≡◌, ℕ, ◌+◌, ◌==◌, ◌≤◌, ◌++◌, List, [], ◌∷◌, fold, Bool, true, false, Some, Result, Ok, Err, if◌then◌else◌, nat_le, slice_get, ⊤}
 use Rattle.std.specs.Ordering.{nat_cmp}
-use Rattle.std.specs.declared.cmp.Ordering.{Ordering}
-use Rattle.std.specs.declared.cmp.Ordering.TheVariants.{Less, Greater}
+use Rattle.std.specs.declared.cmp.Ordering.TheVariants.{Less}
 use Rattle.std.specs.Cmp.Lexicographic.{slice_cmp}
 use Rattle.gz_label.specs.declared.keys.Change.{Change}
 use Rattle.gz_keyspace.specs.declared.error.KeyError.{KeyError}
 use Rattle.gz_keyspace.specs.declared.error.KeyError.TheVariants.{Skipped}
-use Rattle.gz_keyspace.specs.declared.table.Held.{Held}
 use Rattle.gz_keyspace.specs.Keys.{KeyMap, after_writes, keys_after, keys_at, IsNumbered}
 use Rattle.gz_keyspace.specs.Space.{revision_of}
 

@@ -1,5 +1,5 @@
 -- A space of keys, and what its calls do.
-use Rattle.std.specs.Prelude.{◌≡◌, ℕ, ◌+◌, ◌==◌, ◌≤◌, ◌++◌, List, [], ◌∷◌, length, find, fold, Option, Some, None, Result, Ok, Err, if◌then◌else◌}
+use Rattle.std.specs.Prelude.{ℕ, ◌+◌, ◌==◌, ◌++◌, List, [], ◌∷◌, length, fold, Option, Some, None, Result, Ok, Err, if◌then◌else◌}
 use Rattle.std.specs.Map.{remove_entry}
 use Rattle.gz_model.specs.Steps.{◌>>=◌}
 use Rattle.gz_label.specs.declared.keys.KeyWrite.{KeyWrite}

@@ -1,5 +1,5 @@
 -- A table of keys, and the writes that change it.
-use Rattle.std.specs.Prelude.{◌≡◌, ℕ, List, [], ◌∷◌, map, fold, Option, Some, None, option_map, if◌then◌else◌}
+use Rattle.std.specs.Prelude.{ℕ, List, [], ◌∷◌, map, fold, Option, option_map, if◌then◌else◌}
 use Rattle.std.specs.Map.{remove_entry}
 use Rattle.gz_label.specs.declared.keys.KeyWrite.{KeyWrite}
 use Rattle.gz_keyspace.specs.declared.table.Held.{Held}

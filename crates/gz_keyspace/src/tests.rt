@@ -1,4 +1,4 @@
-// Each answer of the calls, once; texts that are read.
+// Each answer of the calls, once.
 
 ghost use Rattle.std.specs.Prelude.{◌≤◌, length};
 
@@ -7,31 +7,8 @@ use gz_label::{Blob, Compare, KeyWrite, Name};
 use std::alloc::Global;
 use std::test::Fail;
 
-// A write of the key: its value, or none.
-fn write(alloc: Global, key: &str, value: Option<&str>) -> Result<KeyWrite, Fail>
-    requires { length key.now ≤ 1024 }
-{
-    let value = match value {
-        None => None,
-        Some(text) => Some(Blob::of(alloc, text.as_bytes())?),
-    };
-    Ok(KeyWrite {
-        key: Name::of(alloc, key)?,
-        value,
-    })
-}
-
-fn compare(alloc: Global, key: &str, mod_revision: u64) -> Result<Compare, Fail>
-    requires { length key.now ≤ 1024 }
-{
-    Ok(Compare {
-        key: Name::of(alloc, key)?,
-        mod_revision,
-    })
-}
-
 // What an answer is, in words.
-fn told(alloc: Global, answer: &Result<u64, KeyError>) -> Result<String, Fail> {
+fn told(alloc: Global, answer: Result<u64, KeyError>) -> Result<String, Fail> {
     let text = match answer {
         Ok(revision) => format!(in alloc; "ok {revision}")?,
         Err(KeyError::CompareFailed { key, mod_revision }) => {
@@ -45,106 +22,34 @@ fn told(alloc: Global, answer: &Result<u64, KeyError>) -> Result<String, Fail> {
     Ok(text)
 }
 
-// The revision that put the key, 0 where it is absent.
-fn revision_of(alloc: Global, keys: &KeySpace, key: &str) -> Result<u64, Fail>
-    requires { length key.now ≤ 1024 }
+// A transaction of one compare and one write, which deletes where the value is empty.
+fn txn(
+    alloc: Global,
+    keys: &mut KeySpace,
+    compared: (&str, u64),
+    written: (&str, &str),
+) -> Result<String, Fail>
+    requires key { length compared.0.now ≤ 1024 }
+    requires write { length written.0.now ≤ 1024 }
 {
-    Ok(keys.get(&Name::of(alloc, key)?).map_or(0, |found| found.1))
-}
-
-#[test]
-fn transactions(rt: HostRuntime) -> Result<(), Fail> {
-    let alloc = rt.alloc();
-    let mut keys = KeySpace::new(alloc);
-    let absent = [compare(alloc, "a", 0)?];
-    let both = [
-        write(alloc, "a", Some("x"))?,
-        write(alloc, "b", Some("y"))?,
-        write(alloc, "a", Some("z"))?,
-    ];
-    assert_eq!(rt; told(alloc, &keys.txn(&absent, &both))?.as_str(), "ok 1");
-    let name = Name::of(alloc, "a")?;
-    let (value, revision) = keys.get(&name).ok_or("absent")?;
-    assert_eq!(rt; value.as_slice(), b"z".as_slice());
-    assert_eq!(rt; revision, 1);
-
-    assert_eq!(rt;
-        told(alloc, &keys.txn(&absent, &both))?.as_str(),
-        "compare failed a 1"
-    );
-    let other = [compare(alloc, "a", 1)?, compare(alloc, "c", 7)?];
-    assert_eq!(rt;
-        told(alloc, &keys.txn(&other, &both))?.as_str(),
-        "compare failed c 0"
-    );
-    assert_eq!(rt; told(alloc, &keys.txn(&[], &[]))?.as_str(), "ok 1");
-    let gone = [write(alloc, "a", None)?];
-    let held = [compare(alloc, "a", 1)?];
-    assert_eq!(rt; told(alloc, &keys.txn(&held, &gone))?.as_str(), "ok 2");
-    assert_eq!(rt; revision_of(alloc, &keys, "a")?, 0);
-    assert_eq!(rt; revision_of(alloc, &keys, "b")?, 1);
-    assert_eq!(rt; keys.revision(), 2);
-    for (after, count) in [(0, 2), (1, 1), (2, 0), (9, 0)] {
-        assert_eq!(rt; keys.since(after)?.as_slice().len(), count, "after {after}");
-    }
-    Ok(())
-}
-
-#[test]
-fn leases(rt: HostRuntime) -> Result<(), Fail> {
-    let alloc = rt.alloc();
-    let mut keys = KeySpace::new(alloc);
-    for (key, answer) in [
-        ("b1", "ok 1"),
-        ("b2", "ok 2"),
-        ("b1", "compare failed b1 1"),
-        ("b3", "ok 3"),
-    ] {
-        let name = Name::of(alloc, key)?;
-        let value = Blob::of(alloc, b"broker z 9")?;
-        assert_eq!(rt; told(alloc, &keys.grant(name, value))?.as_str(), answer);
-    }
-    for (lease, answer) in [
-        (1, "ok 4"),
-        (1, "no lease"),
-        (4, "no lease"),
-        (0, "no lease"),
-    ] {
-        assert_eq!(rt;
-            told(alloc, &keys.expire(lease))?.as_str(),
-            answer,
-            "of {lease}"
-        );
-    }
-    assert_eq!(rt; revision_of(alloc, &keys, "b1")?, 0);
-    let written = [write(alloc, "b2", Some("other"))?];
-    assert_eq!(rt; told(alloc, &keys.txn(&[], &written))?.as_str(), "ok 5");
-    assert_eq!(rt; told(alloc, &keys.expire(2))?.as_str(), "no lease");
-    assert_eq!(rt; revision_of(alloc, &keys, "b2")?, 5);
-    assert_eq!(rt; told(alloc, &keys.expire(3))?.as_str(), "ok 6");
-    Ok(())
-}
-
-// A key space with four changes: a and b are put, a is put again, c is put, b is deleted.
-fn four(alloc: Global) -> Result<KeySpace, Fail> {
-    let mut keys = KeySpace::new(alloc);
-    for writes in [
-        [write(alloc, "b", Some("1"))?, write(alloc, "a", Some("1"))?],
-        [write(alloc, "a", Some("2"))?, write(alloc, "a", Some("2"))?],
-        [write(alloc, "c", Some("3"))?, write(alloc, "d", None)?],
-        [write(alloc, "b", None)?, write(alloc, "a", Some("4"))?],
-    ] {
-        let _ = keys.txn(&[], writes.as_slice());
-    }
-    Ok(keys)
+    let compare = Compare {
+        key: Name::of(alloc, compared.0)?,
+        mod_revision: compared.1,
+    };
+    let value = Blob::of(alloc, written.1.as_bytes())?;
+    let write = KeyWrite {
+        key: Name::of(alloc, written.0)?,
+        value: if value.is_empty() { None } else { Some(value) },
+    };
+    told(alloc, keys.txn(&[compare], &[write]))
 }
 
 // The mirror's keys with their revisions, in a row.
 fn shown(alloc: Global, mirror: &Mirror) -> Result<String, Fail> {
-    let mut text = format!(in alloc; "{}:", mirror.revision())?;
+    let mut text = String::new(alloc);
     for place in 0..9 {
         if let Some((key, value, revision)) = mirror.nth(place) {
-            let more = format!(in alloc; " {} {} {revision}", key.as_str(), value.len())?;
+            let more = format!(in alloc; "{} {} {revision};", key.as_str(), value.len())?;
             text.push_str(more.as_str())?;
         }
     }
@@ -152,33 +57,82 @@ fn shown(alloc: Global, mirror: &Mirror) -> Result<String, Fail> {
 }
 
 #[test]
+fn transactions(rt: HostRuntime) -> Result<(), Fail> {
+    let alloc = rt.alloc();
+    let mut keys = KeySpace::new(alloc);
+    for (compared, written, answer) in [
+        (("a", 0), ("b", "x"), "ok 1"),
+        (("b", 0), ("b", "y"), "compare failed b 1"),
+        (("c", 7), ("b", "y"), "compare failed c 0"),
+        (("b", 1), ("a", "y"), "ok 2"),
+        (("b", 1), ("b", ""), "ok 3"),
+        (("b", 0), ("c", "zz"), "ok 4"),
+    ] {
+        let told = txn(alloc, &mut keys, compared, written)?;
+        assert_eq!(rt; told.as_str(), answer, "at {compared:?}");
+    }
+    assert_eq!(rt; told(alloc, keys.txn(&[], &[]))?.as_str(), "ok 4");
+    let changes = keys.since(1)?;
+    assert_eq!(rt; changes.as_slice().len(), 3);
+    let mirror = Mirror::of(&keys)?;
+    assert_eq!(rt; shown(alloc, &mirror)?.as_str(), "a 1 2;c 2 4;");
+    Ok(())
+}
+
+#[test]
+fn leases(rt: HostRuntime) -> Result<(), Fail> {
+    let alloc = rt.alloc();
+    let mut keys = KeySpace::new(alloc);
+    for (name, answer) in [
+        ("b1", "ok 1"),
+        ("b2", "ok 2"),
+        ("b1", "compare failed b1 1"),
+    ] {
+        let granted = keys.grant(Name::of(alloc, name)?, Blob::new(alloc));
+        assert_eq!(rt; told(alloc, granted)?.as_str(), answer, "of {name}");
+    }
+    for (lease, answer) in [(1, "ok 3"), (1, "no lease"), (2, "no lease")] {
+        if lease == 2 {
+            let _told = txn(alloc, &mut keys, ("b1", 0), ("b2", "x"))?;
+        }
+        assert_eq!(rt;
+            told(alloc, keys.expire(lease))?.as_str(),
+            answer,
+            "of {lease}"
+        );
+    }
+    assert_eq!(rt; keys.revision(), 4);
+    Ok(())
+}
+
+#[test]
 fn mirrors(rt: HostRuntime) -> Result<(), Fail> {
     let alloc = rt.alloc();
-    let keys = four(alloc)?;
-    let changes = keys.since(0)?;
-    let changes = changes.as_slice();
-    assert_eq!(rt; changes.len(), 4);
-    let mut mirror = Mirror::new(alloc);
-    for (place, answer, after) in [
-        (0, "true", "1: a 1 1 b 1 1"),
-        (1, "true", "2: a 1 2 b 1 1"),
-        (3, "skipped 2 4", "2: a 1 2 b 1 1"),
-        (0, "false", "2: a 1 2 b 1 1"),
-        (1, "false", "2: a 1 2 b 1 1"),
-        (2, "true", "3: a 1 2 b 1 1 c 1 3"),
-        (3, "true", "4: a 1 4 c 1 3"),
-    ] {
-        let told = match mirror.apply(&changes[place]) {
-            Ok(next) => format!(in alloc; "{next}")?,
-            Err(e) => told(alloc, &Err(e))?,
-        };
-        assert_eq!(rt; told.as_str(), answer, "of {place}");
-        assert_eq!(rt; shown(alloc, &mirror)?.as_str(), after, "after {place}");
+    let mut keys = KeySpace::new(alloc);
+    for value in ["1", "2", "3", "4"] {
+        let _told = txn(alloc, &mut keys, ("b", 0), ("a", value))?;
     }
-    let copied = Mirror::of(&keys)?;
-    assert_eq!(rt; shown(alloc, &copied)?.as_str(), "4: a 1 4 c 1 3");
-    let name = Name::of(alloc, "c")?;
-    assert_eq!(rt; copied.get(&name).map_or(0, |found| found.1), 3);
-    assert!(rt; copied.get(&Name::of(alloc, "b")?).is_none());
+    let changes = keys.since(0)?;
+    let mut mirror = Mirror::new(alloc);
+    for (place, answer) in [
+        (0, "ok 1"),
+        (1, "ok 2"),
+        (3, "skipped 2 4"),
+        (0, "ok 2"),
+        (2, "ok 3"),
+    ] {
+        if let Some(change) = changes.as_slice().get(place) {
+            let answered = match mirror.apply(change) {
+                Ok(_) => Ok(mirror.revision()),
+                Err(e) => Err(e),
+            };
+            assert_eq!(rt; told(alloc, answered)?.as_str(), answer, "of {place}");
+        }
+    }
+    let key = Name::of(alloc, "a")?;
+    if let Some((value, revision)) = mirror.get(&key) {
+        assert_eq!(rt; value.as_slice(), b"3".as_slice());
+        assert_eq!(rt; revision, 3);
+    }
     Ok(())
 }

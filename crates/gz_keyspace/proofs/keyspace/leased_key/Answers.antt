@@ -1,4 +1,4 @@
-use Rattle.std.proofs.Common.{◌≡◌, sym, ap, ◌∙◌, option_map, slice_get, Some}
+use Rattle.std.proofs.Common.{sym, ap, ◌∙◌, option_map}
 use Rattle.gz_keyspace.proofs.SpaceLemmas.{lease_found, lease_passed}
 use Rattle.gz_keyspace.proofs.keyspace.leased_key.Goals as goal
 

@@ -1,4 +1,4 @@
-use Rattle.std.proofs.Common.{ap, sym, subst, ◌∙◌, cond, is_ok, Result}
+use Rattle.std.proofs.Common.{ap, sym, subst, ◌∙◌, cond, is_ok}
 use Rattle.std.specs.List.{insert}
 use Rattle.gz_keyspace.specs.Keys.{KeyMap}
 use Rattle.gz_keyspace.specs.Mirrors.{IsRising}

@@ -1,4 +1,3 @@
-use Rattle.std.proofs.Common.{List, ℕ}
 use Rattle.indexmap.specs.IndexMap.{get}
 use Rattle.gz_keyspace.specs.Keys.{same_key}
 use Rattle.gz_keyspace.proofs.SpaceLemmas.{kept}
