@@ -4,6 +4,7 @@
 mod blob;
 mod entry;
 mod items;
+mod keys;
 mod label;
 mod label_set;
 mod name;
@@ -14,6 +15,7 @@ mod tests;
 
 pub use blob::Blob;
 pub use entry::{Attempt, Entries, Entry, Image};
+pub use keys::{Change, Changes, Compare, KeyWrite, Writes};
 pub use label::{Label, is_label_name, is_label_value};
 pub use label_set::LabelSet;
 pub use name::{LabelError, Name};

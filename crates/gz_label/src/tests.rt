@@ -1,8 +1,8 @@
 // Rows from outside: what is a name, and where a text that is none goes wrong.
 
 use crate::{
-    Attempt, Blob, Entries, Entry, Image, LabelError, LabelSet, Name, NoMemory, Selector,
-    is_label_name, is_label_value,
+    Attempt, Blob, Change, Changes, Compare, Entries, Entry, Image, KeyWrite, LabelError, LabelSet,
+    Name, NoMemory, Selector, Writes, is_label_name, is_label_value,
 };
 use std::cmp::Ordering;
 use std::test::Fail;
@@ -184,5 +184,44 @@ fn entries(rt: HostRuntime) -> Result<(), Fail> {
         assert_eq!(rt; entry.registers.len(), 1);
     }
     assert_eq!(rt; copied.into_vec().len(), 1);
+    Ok(())
+}
+
+#[test]
+fn changes(rt: HostRuntime) -> Result<(), Fail> {
+    let alloc = rt.alloc();
+    let mut writes = Vec::new(alloc);
+    for value in [Some(b"v".as_slice()), None] {
+        let value = match value {
+            None => None,
+            Some(bytes) => Some(Blob::of(alloc, bytes)?),
+        };
+        writes.push(KeyWrite {
+            key: Name::of(alloc, "k")?,
+            value,
+        })?;
+    }
+    let mut changes = Vec::new(alloc);
+    changes.push(Change {
+        revision: 7,
+        writes: Writes::from_vec(writes),
+    })?;
+    let copied = Changes::from_vec(changes).copy()?;
+    for change in copied.as_slice() {
+        assert_eq!(rt; change.revision, 7);
+        assert_eq!(rt; change.writes.as_slice().len(), 2);
+    }
+    let texts = format!(in alloc; "{copied:?}")?;
+    assert!(rt; !texts.is_empty());
+    assert_eq!(rt; copied.into_vec().len(), 1);
+    let compare = Compare {
+        key: Name::of(alloc, "k")?,
+        mod_revision: 3,
+    };
+    assert_eq!(rt; compare.copy()?.mod_revision, 3);
+    assert_eq!(rt;
+        Writes::from_vec(Vec::new(alloc)).copy()?.into_vec().len(),
+        0
+    );
     Ok(())
 }

@@ -1,0 +1,5 @@
+pub mod KeyLemmas
+pub mod MirrorLemmas
+pub mod RowLemmas
+pub mod SortLemmas
+pub mod SpaceLemmas
