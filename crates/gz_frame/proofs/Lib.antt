@@ -1,3 +1,4 @@
+pub mod FrameLaws
 pub mod Frames
 pub mod Lines
 pub mod Texts

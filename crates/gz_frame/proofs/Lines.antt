@@ -1,8 +1,9 @@
 -- The line of a message is read back as that message.
-use Rattle.std.proofs.Common.{◌≡◌, ℕ, ◌≤◌, ◌+◌, ◌*◌, ◌<◌, ◌==◌, ◌&&◌, List, [], ◌∷◌, ◌++◌, length, refl, arith, suc, Some, true, false, Bool, sym, ◌∙◌, ap, append-nil, zero, inr, not, nat_le, inl, option_and_then}
+use Rattle.std.proofs.Common.{◌≡◌, ℕ, ◌≤◌, ◌+◌, ◌*◌, ◌<◌, ◌==◌, ◌&&◌, List, [], ◌∷◌, ◌++◌, length, refl, arith, suc, Some, true, false, Bool, sym, ◌∙◌, ap, append-nil, zero, inr, not, nat_le, inl, option_and_then, IsTrue, All, ◌^◌, ◌/◌, ◌%◌}
 use Rattle.std.proofs.lemmas.Grind.{common_steps}
 use Rattle.std.proofs.lemmas.Bool.{and_parts, not-true, cases_eq, cases_lt}
 use Rattle.std.proofs.lemmas.Str.{IsUtf8-append, IsUtf8-nil, IsUtf8-from_ascii, IsUtf8-from_is_utf8, utf8_valid_len-IsUtf8}
+use Rattle.std.proofs.lemmas.List.Elements.{All-append, All-nil, All-cons}
 use Rattle.std.specs.Str.{IsUtf8}
 use Rattle.std.specs.Prelude.{codes}
 use Rattle.std.specs.List.{list_all}
@@ -21,7 +22,10 @@ use Rattle.serde_json.proofs.OnLiterals.{serde_json_on_literals}
 use Rattle.uuid.proofs.TextLemmas.{by_index_length, hyphenated_ascii}
 use Rattle.uuid.specs.Text.{hyphenated_text, lower}
 use Rattle.gz_model.specs.Lines.{newline}
-use Rattle.gz_uuid.specs.Identifier.{identifier}
+use Rattle.gz_uuid.proofs.Reading.{is_identifier_identifier, producer_of_identifier, clock_of_identifier, flags_of_identifier}
+use Rattle.uuid.proofs.RoundTrips.{parses_hyphenated}
+use Rattle.std.specs.Int.{w16, w32, to_be_bytes}
+use Rattle.gz_uuid.specs.Identifier.{identifier, is_identifier, AreParts}
 use Rattle.gz_json.specs.Json.{json_of}
 use Rattle.gz_frame.specs.Messages.{Message, is_message}
 use Rattle.gz_frame.specs.Reading.{IsReadable}
@@ -217,3 +221,55 @@ pub line_reads_back : (m : Message) → IsReadable m → message_of (line_of m) 
 unfolding message_of line_of
 line_reads_back m readable =
     rw (short_line m readable.lawful, ended_content (object_text m) (object_clean m), json_of_object m readable.lawful) (object_message m readable)
+
+-- ---- each lawful message is readable
+
+true_of : (b : Bool) → IsTrue b → b ≡ true
+true_of true holds = refl
+true_of false holds = absurd (grind (arith, common_steps))
+
+sixteen : (producer : List ℕ) (clock flags : ℕ) → length producer ≡ 6 → length (identifier producer clock flags) ≡ 16
+sixteen producer clock flags six = grind (arith, common_steps)
+
+items_fit : (a : ℕ) (xs : List ℕ) → a < 2 ^ 8 → All (λ byte. byte < 2 ^ 8) xs → All (λ byte. byte < 2 ^ 8) (a ∷ xs)
+items_fit a xs first rest = All-cons (λ byte. byte < 2 ^ 8) a xs first rest
+
+both_fit : (xs ys : List ℕ) → All (λ byte. byte < 2 ^ 8) xs → All (λ byte. byte < 2 ^ 8) ys → All (λ byte. byte < 2 ^ 8) (xs ++ ys)
+both_fit xs ys first second = All-append (λ byte. byte < 2 ^ 8) xs ys first second
+
+one_fit : (a : ℕ) → a % 2 ^ 8 < 2 ^ 8
+one_fit a = omega arith
+
+two_fit : (n : ℕ) → All (λ byte. byte < 2 ^ 8) (to_be_bytes w16 n)
+two_fit n =
+    items_fit (n / 256 ^ 1 % 256) (n % 256 ∷ []) (one_fit (n / 256 ^ 1)) (items_fit (n % 256) [] (one_fit n) (All-nil (λ byte. byte < 2 ^ 8)))
+
+four_fit : (n : ℕ) → All (λ byte. byte < 2 ^ 8) (to_be_bytes w32 n)
+four_fit n =
+    items_fit (n / 256 ^ 3 % 256) (n / 256 ^ 2 % 256 ∷ to_be_bytes w16 n) (one_fit (n / 256 ^ 3))
+    (items_fit (n / 256 ^ 2 % 256) (to_be_bytes w16 n) (one_fit (n / 256 ^ 2)) (two_fit n))
+
+id_fits : (producer : List ℕ) (clock flags : ℕ) → All (λ octet. octet < 2 ^ 8) producer → All (λ byte. byte < 2 ^ 8) (identifier producer clock flags)
+id_fits producer clock flags fit =
+    let low = to_be_bytes w32 (clock / 2 ^ 4 % 2 ^ 32) in
+    let middle = to_be_bytes w16 (clock / 2 ^ 36 % 2 ^ 16) in
+    let high = to_be_bytes w16 (2 ^ 12 + clock / 2 ^ 52) in
+    let sequence = to_be_bytes w16 (2 ^ 15 + clock % 2 ^ 4 * 2 ^ 10 + flags) in
+    both_fit (low ++ middle ++ high ++ sequence) producer
+    (both_fit (low ++ middle ++ high) sequence
+    (both_fit (low ++ middle) high (both_fit low middle (four_fit (clock / 2 ^ 4 % 2 ^ 32)) (two_fit (clock / 2 ^ 36 % 2 ^ 16))) (two_fit (2 ^ 12 + clock / 2 ^ 52)))
+    (two_fit (2 ^ 15 + clock % 2 ^ 4 * 2 ^ 10 + flags)))
+    fit
+
+pub lawful_line_reads_back : (m : Message) → is_message m ≡ true → AreParts m.producer m.clock m.flags → All (λ octet. octet < 2 ^ 8) m.producer →
+    message_of (line_of m) ≡ Some m
+lawful_line_reads_back m lawful parts fit =
+    let id = identifier m.producer m.clock m.flags in
+    line_reads_back m (record {
+      lawful = lawful;
+      form = true_of (is_identifier id) (is_identifier_identifier m.producer m.clock m.flags parts);
+      producer = producer_of_identifier m.producer m.clock m.flags parts;
+      clock = clock_of_identifier m.producer m.clock m.flags parts;
+      flags = flags_of_identifier m.producer m.clock m.flags parts;
+      parses = sym (parses_hyphenated lower id (inl refl) (sixteen m.producer m.clock m.flags parts.octets.six) (id_fits m.producer m.clock m.flags fit));
+    })

@@ -1,5 +1,5 @@
 -- Frames: bytes with their length in front, after Gazette's fixed framing.
-use Rattle.std.specs.Prelude.{ℕ, ◌+◌, ◌*◌, ◌^◌, ◌==◌, List, [], ◌∷◌, ◌++◌, length, take, drop, Option, Some, None, Result, Ok, Err, ⊤, ◌≡◌, if◌then◌else◌, nat_lt}
+use Rattle.std.specs.Prelude.{ℕ, slice_range, ◌<◌, ◌≤◌, ◌+◌, ◌*◌, ◌^◌, ◌==◌, List, [], ◌∷◌, ◌++◌, length, take, drop, Option, Some, None, Result, Ok, Err, ⊤, ◌≡◌, if◌then◌else◌, nat_lt}
 use Rattle.std.specs.Int.{w32, to_le_bytes}
 use Rattle.gz_frame.specs.declared.frame.FrameError.{FrameError}
 use Rattle.gz_frame.specs.declared.frame.FrameError.TheVariants.{NeedMore, BadMagic, TooLong, NoMemory}
@@ -62,3 +62,18 @@ Fails NoMemory framing = ⊤
 abbrev pub Gives : {Y : Type 0} → Result Y FrameError → Result Y FrameError → Type 0
 Gives (Ok x) framing = framing ≡ Ok x
 Gives (Err e) framing = Fails e framing
+
+-- A frame stands at the front of the bytes, with its content at this place.
+pub record IsFramed (bytes : List ℕ) (place : Unframed) : Type 0 where
+  pub starts : place.begin ≡ 8
+  pub ends : place.end ≡ place.used
+  pub short : length (slice_range bytes place.begin place.end) ≤ max_content
+  pub joined : frame_of (slice_range bytes place.begin place.end) ++ drop place.used bytes ≡ bytes
+
+-- the bytes are the front of a frame, and not all of it
+pub record IsFront (bytes : List ℕ) : Type 0 where
+  pub content : List ℕ
+  pub more : List ℕ
+  pub short : length content ≤ max_content
+  pub some : 0 < length more
+  pub joined : bytes ++ more ≡ frame_of content

@@ -1,6 +1,6 @@
 //! Frames: bytes with their length in front.
-ghost use Rattle.std.specs.Prelude.{◌≡◌, get_or};
-ghost use Rattle.gz_frame.specs.Frame.{magic, first_other, framed, length_in, unframed_within, unframed, Gives};
+ghost use Rattle.std.specs.Prelude.{◌≡◌, ◌↔◌, get_or, Err, IfOk};
+ghost use Rattle.gz_frame.specs.Frame.{magic, first_other, framed, length_in, unframed_within, unframed, IsFramed, IsFront, Gives};
 
 use gz_label::{Blob, NoMemory};
 use std::alloc::{AllocError, Global};
@@ -124,8 +124,11 @@ fn within(len: usize, have: usize) -> Result<Unframed, FrameError>
 
 /// The frame with which the bytes begin. NeedMore exactly where they are the front of a frame, and not all of
 /// it; so TooLong comes as soon as the bytes of the length that are there say so. It takes no memory.
+#[tactic(auto, using(crate::proofs::FrameLaws::found_framed, crate::proofs::FrameLaws::needed_front, crate::proofs::FrameLaws::front_needs))]
 pub fn unframe(bytes: &[u8]) -> Result<Unframed, FrameError>
-    ensures { result ≡ unframed bytes.now }
+    ensures value { result ≡ unframed bytes.now }
+    ensures frame { IfOk result (λ place. IsFramed bytes.now place) }
+    ensures front { (result ≡ Err FrameError.NeedMore) ↔ IsFront bytes.now }
 {
     if let Some(at) = first_other(bytes) {
         return Err(FrameError::BadMagic { at });

@@ -9,6 +9,9 @@ mod message;
 mod tests;
 
 pub use frame::{FrameError, Unframed, frame_fixed, unframe};
-pub use laws::{messages_line_by_line, messages_of_a_front, messages_of_joined_texts};
+pub use laws::{
+    frames_stand_apart, lines_read_back, messages_line_by_line, messages_of_a_front,
+    messages_of_joined_texts,
+};
 pub use line::{print_line, read_line};
 pub use message::{Message, Messages};
