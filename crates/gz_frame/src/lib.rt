@@ -2,8 +2,12 @@
 #![tactic(auto)]
 
 mod frame;
+#[cfg(test)]
+mod frame_tests;
 mod laws;
 mod line;
+#[cfg(test)]
+mod line_tests;
 mod message;
 #[cfg(test)]
 mod tests;
