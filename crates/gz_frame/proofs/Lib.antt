@@ -1,1 +1,5 @@
+pub mod FrameLaws
+pub mod Frames
+pub mod Lines
 pub mod Texts
+pub mod Whole

@@ -1,10 +1,21 @@
 //! Messages, each of which is a line of JSON in a journal.
 #![tactic(auto)]
 
+mod frame;
+#[cfg(test)]
+mod frame_tests;
+mod laws;
 mod line;
+#[cfg(test)]
+mod line_tests;
 mod message;
 #[cfg(test)]
 mod tests;
 
-pub use line::print_line;
+pub use frame::{FrameError, Unframed, frame_fixed, unframe};
+pub use laws::{
+    frames_stand_apart, lines_read_back, messages_line_by_line, messages_of_a_front,
+    messages_of_joined_texts,
+};
+pub use line::{print_line, read_line};
 pub use message::{Message, Messages};
