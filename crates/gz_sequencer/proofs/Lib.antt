@@ -1,0 +1,2 @@
+pub mod PartLookups
+pub mod PartHistories

@@ -1,0 +1,6 @@
+//! Which messages of a text are released, from bytes that come in any pieces.
+#![tactic(auto)]
+
+mod laws;
+
+pub use laws::released_is_committed;
