@@ -1,3 +1,4 @@
 pub mod Messages
 pub mod Line
 pub mod Release
+pub mod Text
