@@ -1,2 +1,3 @@
 pub mod PartLookups
 pub mod PartHistories
+pub mod Feeding

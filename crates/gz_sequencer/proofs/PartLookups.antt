@@ -168,3 +168,70 @@ part_of_after_all (p ∷ ps) q until parts =
     part_of_after_all ps q until (parts_after until parts p)
     ∙ ap (λ (part : Part). part_after_all until part (placed_of q ps)) (part_of_after q until parts p)
     ∙ run_case (bytes_eq p.message.producer q) until (part_of q parts) p (placed_of q ps)
+
+equal_is : (o : Ordering) → is_eq o ≡ true → o ≡ Equal
+equal_is Less h = cc
+equal_is Equal h = refl
+equal_is Greater h = cc
+
+-- bytes compare as equal to themselves
+pub itself : (k : List ℕ) → by_bytes k k ≡ Equal
+itself k = equal_is (by_bytes k k) (is_eq-slice_cmp k k ∙ (bytes_eq-Decides k k).1 refl)
+
+-- an entry that is put twice is the second one
+pub insert_twice : (es : Parts) (k : List ℕ) (v w : Part) → insert_entry by_bytes (insert_entry by_bytes es k v) k w ≡ insert_entry by_bytes es k w
+insert_twice [] k v w = rw (itself k) refl
+insert_twice (e ∷ es) k v w = by_order (by_bytes k e.0) refl (insert_twice es k v w)
+  where
+    by_order : (o : Ordering) → o ≡ by_bytes k e.0
+        → insert_entry by_bytes (insert_entry by_bytes es k v) k w ≡ insert_entry by_bytes es k w
+        → insert_entry by_bytes (match_ordering o ((k, v) ∷ e ∷ es) ((e.0, v) ∷ es) (e ∷ insert_entry by_bytes es k v)) k w ≡ match_ordering o ((k, w) ∷ e ∷ es) ((e.0, w) ∷ es) (e ∷ insert_entry by_bytes es k w)
+    by_order Less h ih = rw (itself k) refl
+    by_order Equal h ih = rw (← h) refl
+    by_order Greater h ih = rw (← h) (ap (λ (fs : Parts). e ∷ fs) ih)
+
+-- nothing is written where there is no entry
+pub set_none : (test : List ℕ → Bool) (es : Parts) (w : Part) → lookup test es ≡ None → set_value test es w ≡ es
+set_none test [] w none = refl
+set_none test (e ∷ es) w none = by_test (test e.0) none (set_none test es w)
+  where
+    by_test : (b : Bool) → cond b (Some e.1) (lookup test es) ≡ None → (lookup test es ≡ None → set_value test es w ≡ es) → cond b ((e.0, w) ∷ es) (e ∷ set_value test es w) ≡ e ∷ es
+    by_test true h ih = cc
+    by_test false h ih = ap (λ (fs : Parts). e ∷ fs) (ih h)
+
+-- what is kept of a producer was put twice: first nothing, and then what follows on what was kept
+pub put_after : (es once twice : Parts) (k : List ℕ) (old : Option Part) (v d u w : Part) (p : Placed)
+    → k ≡ p.message.producer → once ≡ insert_entry by_bytes es k v → old ≡ lookup (is_at (by_bytes k)) es → d ≡ nothing → u ≡ unwrap_or old d → w ≡ part_after u p → twice ≡ insert_entry by_bytes once k w
+    → (seen : Parts) → es ≡ seen → twice ≡ insert_entry by_bytes seen p.message.producer (part_after (part_of p.message.producer seen) p)
+put_after es once twice k old v d u w p key first found none kept after second seen same =
+    let what : u ≡ part_of p.message.producer es = kept ∙ rw (found, none) (ap (λ (x : List ℕ). part_of x es) key) in
+    second ∙ ap (λ (fs : Parts). insert_entry by_bytes fs k w) first ∙ insert_twice es k v w
+    ∙ ap (λ (x : List ℕ). insert_entry by_bytes es x w) key
+    ∙ ap (λ (x : Part). insert_entry by_bytes es p.message.producer x) (after ∙ ap (λ (x : Part). part_after x p) what)
+    ∙ ap (λ (fs : Parts). insert_entry by_bytes fs p.message.producer (part_after (part_of p.message.producer fs) p)) same
+
+pub found_at : (es : Parts) (k : List ℕ) (old : Option Part) (d u : Part) (p : Placed)
+    → k ≡ p.message.producer → old ≡ lookup (is_at (by_bytes k)) es → d ≡ nothing → u ≡ unwrap_or old d
+    → (seen : Parts) → es ≡ seen → u ≡ part_of p.message.producer seen
+found_at es k old d u p key found none kept seen same = kept ∙ rw (found, none) (ap (λ (x : List ℕ). part_of x es) key ∙ ap (λ (fs : Parts). part_of p.message.producer fs) same)
+
+-- what is kept of a producer was written in its place
+pub set_after : (es after : Parts) (k : List ℕ) (v w : Part) (p : Placed)
+    → k ≡ p.message.producer → Some v ≡ lookup (is_at (by_bytes k)) es → w ≡ part_again v p → after ≡ set_value (is_at (by_bytes k)) es w
+    → (seen : Parts) → es ≡ seen → after ≡ set_value (is_at (by_bytes p.message.producer)) seen (part_again (part_of p.message.producer seen) p)
+set_after es after k v w p key found again set seen same =
+    let what : v ≡ part_of p.message.producer es = ap (λ (o : Option Part). unwrap_or o nothing) found ∙ ap (λ (x : List ℕ). part_of x es) key in
+    set
+    ∙ ap (λ (x : List ℕ). set_value (is_at (by_bytes x)) es w) key
+    ∙ ap (λ (x : Part). set_value (is_at (by_bytes p.message.producer)) es x) (again ∙ ap (λ (x : Part). part_again x p) what)
+    ∙ ap (λ (fs : Parts). set_value (is_at (by_bytes p.message.producer)) fs (part_again (part_of p.message.producer fs) p)) same
+
+-- nothing is kept of the producer, and nothing was written
+pub set_nothing : (es after : Parts) (k : List ℕ) (p : Placed)
+    → k ≡ p.message.producer → None ≡ lookup (is_at (by_bytes k)) es → after ≡ es
+    → (seen : Parts) → es ≡ seen → after ≡ set_value (is_at (by_bytes p.message.producer)) seen (part_again (part_of p.message.producer seen) p)
+set_nothing es after k p key found kept seen same =
+    let none : lookup (is_at (by_bytes p.message.producer)) es ≡ None = ap (λ (x : List ℕ). lookup (is_at (by_bytes x)) es) (sym key) ∙ sym found in
+    kept
+    ∙ sym (set_none (is_at (by_bytes p.message.producer)) es (part_again (part_of p.message.producer es) p) none)
+    ∙ ap (λ (fs : Parts). set_value (is_at (by_bytes p.message.producer)) fs (part_again (part_of p.message.producer fs) p)) same

@@ -2,5 +2,11 @@
 #![tactic(auto)]
 
 mod laws;
+mod part;
+mod parts;
+mod point;
+mod sequencer;
 
 pub use laws::released_is_committed;
+pub use point::SourcePoint;
+pub use sequencer::Sequencer;
