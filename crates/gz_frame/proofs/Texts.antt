@@ -1,5 +1,5 @@
 -- Texts of at most so many bytes.
-use Rattle.std.proofs.Common.{◌≡◌, ℕ, ◌≤◌, ◌<◌, List, length, refl, Bool, true, false, ◌&&◌, nat_le, arith}
+use Rattle.std.proofs.Common.{◌≡◌, ℕ, ◌≤◌, ◌<◌, List, length, refl, Bool, true, false, ◌&&◌, nat_le, arith, Option, Some, None}
 use Rattle.std.specs.Str.{IsUtf8, is_utf8}
 use Rattle.std.proofs.lemmas.Grind.{common_steps}
 use Rattle.std.proofs.lemmas.Str.{IsUtf8-from_is_utf8, is_utf8-from_IsUtf8}
@@ -33,3 +33,8 @@ pub is_lawful : (producer : List ℕ) (clock flags : ℕ) (key value : List ℕ)
     → is_message (record { producer = producer; clock = clock; flags = flags; key = key; value = value }) ≡ true
 is_lawful producer clock flags key value valid_key short_key valid_value short_value known =
     rw (is_text 256 key valid_key short_key, is_text 4096 value valid_value short_value, at_most flags 2 known) refl
+
+-- what can't be a value is none
+pub no_value : {A : Type 0} (o : Option A) → ((x : A) × (o ≡ Some x) → ⊥) → None ≡ o
+no_value None never = refl
+no_value (Some x) never = absurd (never (x, refl))

@@ -1,6 +1,6 @@
 //! Messages.
-ghost use Rattle.std.specs.Prelude.{◌≡◌, ◌++◌, ◌∷◌, ◌≤◌, [], length, MatchOption, true, false, string_bytes, OnOk, OnErr};
-ghost use Rattle.gz_frame.specs.Messages.{message_if, is_text_within};
+ghost use Rattle.std.specs.Prelude.{◌≡◌, ◌++◌, ◌∷◌, ◌≤◌, [], length, MatchOption, true, false, string_bytes, OnOk, OnErr, IsTrue};
+ghost use Rattle.gz_frame.specs.Messages.{is_message, message_if, is_text_within};
 
 use gz_label::{Blob, NoMemory};
 use gz_uuid::{Flags, MsgClock, Parts, ProducerId};
@@ -83,6 +83,7 @@ impl Message {
         ensures producer { result.producer ≡ self.now.producer }
         ensures clock { result.clock ≡ self.now.clock }
         ensures flags { result.flags ≡ self.now.flags }
+        ensures lawful { IsTrue (is_message self.now) }
     {
         self.parts
     }

@@ -98,7 +98,7 @@ impl Sequencer {
     }
 
     // Takes the rest of a line, up to its newline.
-    #[tactic(auto, using(crate::proofs::Feeding::fed_line, crate::proofs::Feeding::fed_first_line))]
+    #[tactic(auto, using(crate::proofs::Feeding::fed_line))]
     fn take_line(&mut self, rest: &[u8]) -> Result<(), NoMemory>
         requires whole { line_len rest.now ≡ Some (length rest.now) }
         requires small { at self.old + length rest.now ≤ 2 ^ 62 }
