@@ -1,6 +1,7 @@
 -- Bytes, piece by piece and line by line.
-use Rattle.std.proofs.Common.{◌≡◌, ℕ, suc, ◌+◌, ◌<◌, ◌≤◌, ◌==◌, List, [], ◌∷◌, ◌++◌, length, take, drop, refl, ap, sym, ◌∙◌, Bool, true, false, cond, Option, Some, None, option_map, arith, append_assoc}
-use Rattle.std.proofs.lemmas.List.{append-nil, length-append}
+use Rattle.std.proofs.Common.{◌≡◌, ℕ, suc, ◌+◌, ◌-◌, ◌<◌, ◌≤◌, ◌==◌, List, [], ◌∷◌, ◌++◌, length, take, drop, refl, ap, sym, ◌∙◌, Bool, true, false, cond, Option, Some, None, option_map, arith, append_assoc}
+use Rattle.std.proofs.lemmas.Grind.{common_steps}
+use Rattle.std.proofs.lemmas.List.{append-nil, length-append, length-drop, take-append-drop}
 use Rattle.gz_model.specs.Lines.{newline, line_len}
 use Rattle.gz_frame.specs.Messages.{Message}
 use Rattle.gz_frame.specs.Text.{message_of}
@@ -75,6 +76,10 @@ no_bytes : (xs : List ℕ) → 1 ≡ suc (length xs) → xs ≡ []
 no_bytes [] e = refl
 no_bytes (x ∷ xs) e = absurd (omega arith)
 
+same_line : (o : Option Message) (s : Machine) (line : List ℕ) (len : ℕ) → after_message o (record s { line = line }) len ≡ after_message o s len
+same_line None s line len = refl
+same_line (Some m) s line len = refl
+
 line_step : (b : Bool) (x : ℕ) (xs : List ℕ) (s : Machine) → cond b (Some 1) (option_map (λ n. suc n) (line_len xs)) ≡ Some (suc (length xs))
     → (line_len xs ≡ Some (length xs) → fed (record s { line = s.line ++ x ∷ [] }) xs ≡ after_line (record s { line = s.line ++ x ∷ [] }) ((s.line ++ x ∷ []) ++ xs))
     → fed (cond b (after_line s (s.line ++ x ∷ [])) (record s { line = s.line ++ x ∷ [] })) xs ≡ after_line s (s.line ++ x ∷ xs)
@@ -82,10 +87,6 @@ line_step true x xs s e ih =
     let none : xs ≡ [] = no_bytes xs (cc) in
     rw none refl
 line_step false x xs s e ih = ih (line_rest (line_len xs) (length xs) e) ∙ same_line (message_of ((s.line ++ x ∷ []) ++ xs)) s (s.line ++ x ∷ []) (length ((s.line ++ x ∷ []) ++ xs)) ∙ ap (λ (line : List ℕ). after_line s line) (append_assoc s.line (x ∷ []) xs)
-
-same_line : (o : Option Message) (s : Machine) (line : List ℕ) (len : ℕ) → after_message o (record s { line = line }) len ≡ after_message o s len
-same_line None s line len = refl
-same_line (Some m) s line len = refl
 
 pub fed_line : (xs : List ℕ) (s : Machine) → line_len xs ≡ Some (length xs) → fed s xs ≡ after_line s (s.line ++ xs)
 fed_line [] s e = cc
@@ -103,3 +104,27 @@ at_byte false s x = omega (arith, length-append s.line (x ∷ []))
 pub at_fed : (xs : List ℕ) (s : Machine) → at (fed s xs) ≡ at s + length xs
 at_fed [] s = omega arith
 at_fed (x ∷ xs) s = at_fed xs (after_byte s x) ∙ omega (arith, at_byte (x == 10) s x)
+
+-- the first line of some bytes, and what is behind it
+pub whole_front : (xs front : List ℕ) (n : ℕ) → Some n ≡ line_len xs → n ≤ length xs → front ≡ take n xs → line_len front ≡ Some (length front)
+whole_front xs front n e within f =
+    let len : length (take n xs) ≡ n = grind (arith, common_steps) in
+    rw f (line_len_whole xs n (sym e) ∙ ap (λ (k : ℕ). Some k) (sym len))
+
+pub fed_split : (xs front back : List ℕ) (n : ℕ) (s t : Machine) → front ≡ take n xs → back ≡ drop n xs → t ≡ fed s front → fed t back ≡ fed s xs
+fed_split xs front back n s t f b e =
+    let joined : front ++ back ≡ xs = rw (f, b) (take-append-drop n xs) in
+    ap (λ (u : Machine). fed u back) e ∙ sym (fed_append front back s) ∙ ap (λ (ys : List ℕ). fed s ys) joined
+
+pub at_split : (xs front back : List ℕ) (n : ℕ) (s t : Machine) → front ≡ take n xs → back ≡ drop n xs → t ≡ fed s front → at t + length back ≡ at s + length xs
+at_split xs front back n s t f b e =
+    let moved : at t ≡ at s + length front = ap (λ (u : Machine). at u) e ∙ at_fed front s in
+    let joined : front ++ back ≡ xs = rw (f, b) (take-append-drop n xs) in
+    let both : length front + length back ≡ length xs = sym (length-append front back) ∙ ap (λ (ys : List ℕ). length ys) joined in
+    omega arith
+
+pub smaller : (xs back : List ℕ) (n : ℕ) → Some n ≡ line_len xs → n ≤ length xs → back ≡ drop n xs → length back < length xs
+smaller xs back n e within b =
+    let some : 0 < n = line_len_some xs n (sym e) in
+    let len : length back ≡ length xs - n = rw b (length-drop n xs) in
+    omega arith

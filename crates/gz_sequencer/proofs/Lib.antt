@@ -1,3 +1,5 @@
 pub mod PartLookups
 pub mod PartHistories
 pub mod Feeding
+pub mod InOrder
+pub mod FedTexts

@@ -8,5 +8,5 @@ mod point;
 mod sequencer;
 
 pub use laws::released_is_committed;
-pub use point::SourcePoint;
+pub use point::{ProducerMark, SourcePoint};
 pub use sequencer::Sequencer;

@@ -1,5 +1,6 @@
 //! What is kept of each producer.
-ghost use Rattle.std.specs.Prelude.{◌≡◌, ◌++◌, [], OnOk};
+ghost use Rattle.std.specs.Prelude.{◌≡◌, ◌++◌, [], OnOk, IfOk, map};
+ghost use Rattle.gz_sequencer.specs.Machine.{mark_of, part_at};
 ghost use Rattle.std.specs.Ordering.{nat_cmp};
 ghost use Rattle.std.specs.Cmp.Lexicographic.{slice_cmp};
 ghost use Rattle.std.specs.Map.{set_value};
@@ -7,6 +8,7 @@ ghost use Rattle.std.specs.BTreeMap.{insert_entry, is_at};
 ghost use Rattle.gz_sequencer.specs.Parts.{part_of, part_after, part_again, part_releases, parts_after, releases};
 
 use crate::part::{Part, PlacedMessage};
+use crate::point::ProducerMark;
 use gz_frame::Message;
 use gz_label::NoMemory;
 use gz_uuid::ProducerId;
@@ -36,6 +38,35 @@ impl Parts {
         Parts {
             entries: BTreeMap::new(alloc),
         }
+    }
+
+    /// What is kept of producers with these marks, before the messages that wait are read again.
+    pub fn at(
+        alloc: Global,
+        marks: &BTreeMap<ProducerId, ProducerMark>,
+    ) -> Result<Parts, NoMemory>
+        ensures { IfOk result (λ parts. parts ≡ map (λ e. (e.0, part_at e.1)) marks.now.entries) }
+    {
+        let mut entries = BTreeMap::new(alloc);
+        for (producer, mark) in marks.iter() {
+            entries.insert(*producer, Part::at(alloc, mark.ack, mark.pending))?;
+        }
+        Ok(Parts { entries })
+    }
+
+    /// The mark of each producer.
+    pub fn marks(&self, alloc: Global) -> Result<BTreeMap<ProducerId, ProducerMark>, NoMemory>
+        ensures { IfOk result (λ marks. marks.entries ≡ map (λ e. (e.0, mark_of e.1)) self.now) }
+    {
+        let mut marks = BTreeMap::new(alloc);
+        for (producer, part) in self.entries.iter() {
+            let mark = ProducerMark {
+                ack: part.ack(),
+                pending: part.first(),
+            };
+            marks.insert(*producer, mark)?;
+        }
+        Ok(marks)
     }
 
     // A message is read again.

@@ -1,7 +1,7 @@
 //! What a checkpoint has of a source.
-ghost use Rattle.std.specs.Prelude.{◌≡◌, [], OnOk};
+ghost use Rattle.std.specs.Prelude.{◌≡◌, []};
+ghost use Rattle.gz_sequencer.specs.Machine.{least_from};
 
-use gz_label::NoMemory;
 use gz_uuid::ProducerId;
 use std::alloc::Global;
 use std::collections::BTreeMap;
@@ -51,6 +51,26 @@ impl SourcePoint {
             offset,
             producers: BTreeMap::new(alloc),
         }
+    }
+
+    /// A point at this offset, with these marks. It takes no memory.
+    pub fn of(offset: u64, producers: BTreeMap<ProducerId, ProducerMark>) -> SourcePoint
+        ensures { result ≡ record { offset = offset; producers = producers.entries } }
+    {
+        SourcePoint { offset, producers }
+    }
+
+    /// The least of the offset and the offsets of the first messages that wait.
+    pub fn least(&self) -> u64
+        ensures { result ≡ least_from self.now.offset self.now.producers }
+    {
+        let mut least = self.offset;
+        for (_producer, mark) in self.producers.iter() {
+            if let Some(first) = mark.pending {
+                least = least.min(first);
+            }
+        }
+        least
     }
 
     /// The offset after the last whole line.

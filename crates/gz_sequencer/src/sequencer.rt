@@ -125,11 +125,37 @@ impl Sequencer {
         let _ = offset;
         let mut rest = bytes;
         'lines: while let Some(len) = first_line_len(rest) {
-            self.take_line(&rest[..len])?;
-            rest = &rest[len..];
+            let (line, more) = rest.split_at(len);
+            self.take_line(line)?;
+            rest = more;
         }
         self.line.append(rest)?;
         Ok(())
+    }
+
+    /// The checkpoint after the last whole line: with the bytes from its offsets on, `resume` goes on from it. Until
+    /// the lines below the offset of the point from which the sequencer was made are fed again, it is that point.
+    pub fn checkpoint(&self) -> Result<SourcePoint, NoMemory>
+        ensures { IfOk result (λ point. point ≡ point_of self.now) }
+    {
+        let producers = self.parts.marks(self.alloc)?;
+        Ok(SourcePoint::of(self.until.max(self.begin), producers))
+    }
+
+    /// A sequencer that goes on from a checkpoint. The offset that it wants is the least of the checkpoint's offset
+    /// and the offsets of the first messages that wait. Lines below the checkpoint's offset only wait again.
+    pub fn resume(alloc: Global, point: &SourcePoint) -> Result<Sequencer, NoMemory>
+        ensures { IfOk result (λ sequencer. sequencer ≡ resumed point.now) }
+    {
+        let parts = Parts::at(alloc, point.producers())?;
+        Ok(Sequencer {
+            alloc,
+            until: point.offset(),
+            begin: point.least(),
+            line: Blob::new(alloc),
+            parts,
+            released: VecDeque::new(alloc),
+        })
     }
 
     /// The first of the released messages that weren't taken. None exactly where all were taken. It takes no memory.
