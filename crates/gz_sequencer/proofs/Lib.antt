@@ -3,3 +3,5 @@ pub mod PartHistories
 pub mod Feeding
 pub mod InOrder
 pub mod FedTexts
+pub mod Placement
+pub mod AnyCuts

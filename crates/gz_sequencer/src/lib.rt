@@ -7,6 +7,6 @@ mod parts;
 mod point;
 mod sequencer;
 
-pub use laws::released_is_committed;
+pub use laws::{given_is_committed, released_is_committed};
 pub use point::{ProducerMark, SourcePoint};
 pub use sequencer::Sequencer;
