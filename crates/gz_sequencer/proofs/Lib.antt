@@ -5,3 +5,4 @@ pub mod InOrder
 pub mod FedTexts
 pub mod Placement
 pub mod AnyCuts
+pub mod Again
