@@ -12,10 +12,10 @@ use Rattle.gz_sequencer.proofs.PartLookups.{part_step, part_after_all}
 use Rattle.gz_sequencer.proofs.PartHistories.{AllFrom}
 use Rattle.gz_sequencer.proofs.Placement.{AllBelow, Rising}
 
-is_below : (m n : ℕ) → m < n → nat_lt m n ≡ true
+pub is_below : (m n : ℕ) → m < n → nat_lt m n ≡ true
 is_below m n h = grind (arith, common_steps)
 
-not_below : (m n : ℕ) → n ≤ m → nat_lt m n ≡ false
+pub not_below : (m n : ℕ) → n ≤ m → nat_lt m n ≡ false
 not_below m n h = grind (arith, common_steps)
 
 is_before : (m n : ℕ) → m < n → nat_le n m ≡ false

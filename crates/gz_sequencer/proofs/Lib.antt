@@ -6,3 +6,5 @@ pub mod FedTexts
 pub mod Placement
 pub mod AnyCuts
 pub mod Again
+pub mod SameParts
+pub mod Marks
