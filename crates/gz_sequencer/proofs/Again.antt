@@ -111,7 +111,7 @@ message_again false false part p ps until s before below end waits same =
     ap (λ (x : Part). part_again x p) same ∙ rw waits (same_both (is_from part.first p.begin && not (is_end p.message)) part)
 
 -- ---- lists from their back
-run_append : (xs ys : List Placed) (until : ℕ) (part : Part) → part_after_all until part (xs ++ ys) ≡ part_after_all until (part_after_all until part xs) ys
+pub run_append : (xs ys : List Placed) (until : ℕ) (part : Part) → part_after_all until part (xs ++ ys) ≡ part_after_all until (part_after_all until part xs) ys
 run_append [] ys until part = refl
 run_append (x ∷ xs) ys until part = run_append xs ys until (part_step until part x)
 

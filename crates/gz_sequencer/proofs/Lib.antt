@@ -8,3 +8,5 @@ pub mod AnyCuts
 pub mod Again
 pub mod SameParts
 pub mod Marks
+pub mod GoesOn
+pub mod Resuming

@@ -6,7 +6,12 @@ mod part;
 mod parts;
 mod point;
 mod sequencer;
+#[cfg(test)]
+mod tests;
 
-pub use laws::{given_is_committed, released_is_committed};
+pub use laws::{
+    front_commits_front, given_is_committed, released_is_committed, resumed_checkpoints_agree,
+    resumed_releases_the_rest,
+};
 pub use point::{ProducerMark, SourcePoint};
 pub use sequencer::Sequencer;
