@@ -7,7 +7,7 @@ use std::marker::Model;
 
 /// A producer: the node of its identifiers (RFC 9562, section 6.10), six octets with the multicast bit,
 /// the least bit of the first octet, set, so that it is the address of no network card.
-#[derive(Clone, Copy, Debug, PartialEq, Eq)]
+#[derive(Clone, Copy, Debug, PartialEq, Eq, PartialOrd, Ord)]
 pub struct ProducerId {
     octets: [u8; 6],
 }

@@ -1,0 +1,12 @@
+pub mod PartLookups
+pub mod PartHistories
+pub mod Feeding
+pub mod InOrder
+pub mod FedTexts
+pub mod Placement
+pub mod AnyCuts
+pub mod Again
+pub mod SameParts
+pub mod Marks
+pub mod GoesOn
+pub mod Resuming

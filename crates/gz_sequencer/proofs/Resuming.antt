@@ -1,0 +1,163 @@
+-- What a sequencer that is made from a checkpoint releases is the rest, and its checkpoints are those of the whole text.
+use Rattle.std.proofs.Common.{◌≡◌, ℕ, ◌+◌, ◌-◌, ◌<◌, ◌≤◌, ◌==◌, List, [], ◌∷◌, ◌++◌, length, map, drop, max, refl, ap, sym, ◌∙◌, subst, Bool, true, false, cond, not, ◌&&◌, Option, Some, None, unwrap_or, arith, append_assoc, nat_lt}
+use Rattle.std.proofs.lemmas.List.{append-nil, length-append, map-append}
+use Rattle.std.specs.Ordering.{nat_cmp}
+use Rattle.std.specs.Cmp.Lexicographic.{slice_cmp}
+use Rattle.std.specs.Map.{lookup, set_value}
+use Rattle.std.specs.BTreeMap.{is_at}
+use Rattle.gz_model.specs.Lines.{newline, line_len}
+use Rattle.gz_model.specs.Prefix.{IsPrefix}
+use Rattle.gz_frame.specs.Messages.{Message, is_end}
+use Rattle.gz_frame.specs.Release.{Release, released, of_producer}
+use Rattle.gz_frame.specs.Text.{Placed, message_of, messages_of, is_whole}
+use Rattle.gz_frame.proofs.Whole.{Split, split_of, messages_joined, messages_prefix}
+use Rattle.gz_sequencer.specs.Committed.{messages_alone, released_in, committed_after, committed}
+use Rattle.gz_sequencer.specs.Parts.{Part, Parts, nothing, part_of, does_wait, with_waiting, continued, is_from, part_again, parts_after, parts_after_all, releases_of_all}
+use Rattle.gz_sequencer.specs.Machine.{Machine, Mark, Point, at, after_message, after_line, after_byte, fed, mark_of, part_at, least_from, point_of, resumed, started}
+use Rattle.gz_sequencer.proofs.PartHistories.{AllFrom}
+use Rattle.gz_sequencer.proofs.Feeding.{fed_append, fed_open, at_fed}
+use Rattle.gz_sequencer.proofs.FedTexts.{Follows, fed_follows}
+use Rattle.gz_sequencer.proofs.Placement.{AllBelow, all_below_higher, Rising, StartsAt, Placement, placement}
+use Rattle.gz_sequencer.proofs.AnyCuts.{fed_is_committed}
+use Rattle.gz_sequencer.proofs.Again.{is_below}
+use Rattle.gz_sequencer.proofs.Marks.{marks_of, parts_at, AtMost, AllFirst, least_first, least_starts, all_first_run}
+use Rattle.gz_sequencer.proofs.GoesOn.{all_again, releases_none, Twin, twin_fed, whole_line, back_last}
+
+-- where a sequencer stands after whole lines
+record Stands (offset : ℕ) (text : List ℕ) (s : Machine) : Type 0 where
+  until : s.until ≡ offset
+  begin : s.begin ≡ offset + length text
+  line : s.line ≡ []
+  parts : s.parts ≡ parts_after_all offset [] (messages_of offset text)
+
+stands : (offset : ℕ) (text : List ℕ) → is_whole text ≡ true → Stands offset text (fed (started offset) text)
+stands offset text whole =
+    let f : Follows (started offset) (fed (started offset) text) (messages_of offset text) = fed_follows text (started offset) refl in
+    let empty : (fed (started offset) text).line ≡ [] = whole_line text (started offset) refl whole in
+    let none : length (fed (started offset) text).line ≡ 0 = ap (λ (l : List ℕ). length l) empty in
+    let place : at (fed (started offset) text) ≡ at (started offset) + length text = at_fed text (started offset) in
+    record { until = f.until; begin = omega (arith, none, place); line = empty; parts = f.parts }
+
+drop_front : (front back : List ℕ) → drop (length front) (front ++ back) ≡ back
+drop_front [] back = refl
+drop_front (x ∷ front) back = drop_front front back
+
+-- a front and a back of whole lines, of which the front ends at the least offset
+from_cut : (offset : ℕ) (text front back : List ℕ) (s r : Machine) → Stands offset text s → r ≡ resumed (point_of s) → front ++ back ≡ text → is_whole front ≡ true → is_whole back ≡ true → r.begin ≡ offset + length front
+    → Twin s.released s (fed r back)
+from_cut offset text front back s r st same joined whole whole_back place =
+    let top : max s.until s.begin ≡ offset + length text = omega (arith, st.until, st.begin) in
+    let lengths : length front + length back ≡ length text = sym (length-append front back) ∙ ap (λ (ys : List ℕ). length ys) joined in
+    let until : r.until ≡ offset + length text = ap (λ (m : Machine). m.until) same ∙ top in
+    let line : r.line ≡ [] = ap (λ (m : Machine). m.line) same in
+    let f : Follows r (fed r back) (messages_of r.begin (r.line ++ back)) = fed_follows back r (ap (λ (l : List ℕ). line_len l) line) in
+    let texts : messages_of r.begin (r.line ++ back) ≡ messages_of r.begin back = ap (λ (l : List ℕ). messages_of r.begin (l ++ back)) line in
+    let empty : (fed r back).line ≡ [] = whole_line back r line whole_back in
+    let none : length (fed r back).line ≡ 0 = ap (λ (l : List ℕ). length l) empty in
+    let none_r : length r.line ≡ 0 = ap (λ (l : List ℕ). length l) line in
+    let moved : at (fed r back) ≡ at r + length back = at_fed back r in
+    let begin : (fed r back).begin ≡ offset + length text = omega (arith, none, none_r, moved, place, lengths) in
+    let ps_front : List Placed = messages_of offset front in
+    let ps_back : List Placed = messages_of r.begin back in
+    let split : messages_of offset text ≡ ps_front ++ ps_back =
+        ap (λ (t : List ℕ). messages_of offset t) (sym joined) ∙ messages_joined offset front back whole ∙ ap (λ (n : ℕ). ps_front ++ messages_of n back) (sym place) in
+    let p : Placement offset text (messages_of offset text) = placement text [] offset refl in
+    let p_front : Placement offset front ps_front = placement front [] offset refl in
+    let p_back : Placement r.begin back ps_back = placement back [] r.begin refl in
+    let parts : s.parts ≡ parts_after_all offset [] (ps_front ++ ps_back) = st.parts ∙ ap (λ (ps : List Placed). parts_after_all offset [] ps) split in
+    let below_front : AllBelow (offset + length text) ps_front = all_below_higher ps_front (offset + length front) (offset + length text) (omega arith) p_front.below in
+    let below_back : AllBelow (offset + length text) ps_back = all_below_higher ps_back (r.begin + length back) (offset + length text) (omega arith) p_back.below in
+    let below_least : AllBelow r.begin ps_front = all_below_higher ps_front (offset + length front) r.begin (omega arith) p_front.below in
+    let least : (q : List ℕ) → AtMost r.begin (part_of q (parts_after_all offset [] (ps_front ++ ps_back))).first = λ q.
+        subst (λ (x : Parts). AtMost r.begin (part_of q x).first) parts (subst (λ (n : ℕ). AtMost n (part_of q s.parts).first) (sym (ap (λ (m : Machine). m.begin) same)) (least_first q s.parts (max s.until s.begin))) in
+    let again : parts_after_all (offset + length text) (parts_at (marks_of (parts_after_all offset [] (ps_front ++ ps_back)))) ps_back ≡ parts_after_all offset [] (ps_front ++ ps_back) =
+        all_again offset (offset + length text) r.begin ps_front ps_back
+            (subst (λ (ps : List Placed). Rising ps) split p.rising) (subst (λ (ps : List Placed). AllFrom offset ps) split p.from) (subst (λ (ps : List Placed). AllBelow (offset + length text) ps) split p.below)
+            below_front below_back below_least least in
+    let read : (fed r back).parts ≡ s.parts =
+        f.parts ∙ ap (λ (ps : List Placed). parts_after_all r.until r.parts ps) texts
+        ∙ ap (λ (u : ℕ). parts_after_all u r.parts ps_back) until
+        ∙ ap (λ (x : Parts). parts_after_all (offset + length text) x ps_back) (ap (λ (m : Machine). m.parts) same ∙ ap (λ (x : Parts). parts_at (marks_of x)) parts)
+        ∙ again ∙ sym parts in
+    let released : (fed r back).released ≡ [] =
+        f.released ∙ ap (λ (ps : List Placed). r.released ++ releases_of_all r.until r.parts ps) texts
+        ∙ ap (λ (u : ℕ). r.released ++ releases_of_all u r.parts ps_back) until
+        ∙ ap (λ (ms : List Message). r.released ++ ms) (releases_none ps_back (offset + length text) r.parts below_back)
+        ∙ ap (λ (m : Machine). m.released ++ []) same in
+    record {
+      passed_t = omega (arith, st.until, st.begin);
+      passed_s = omega (arith, f.until, until, begin);
+      begin = st.begin ∙ sym begin;
+      line = st.line ∙ sym empty;
+      parts = sym read;
+      released = sym (ap (λ (ms : List Message). s.released ++ ms) released ∙ append-nil s.released);
+    }
+
+-- after whole lines
+from_whole : (offset : ℕ) (text xs : List ℕ) → is_whole text ≡ true
+    → Twin (fed (started offset) text).released (fed (started offset) (text ++ xs)) (fed (resumed (point_of (fed (started offset) text))) (drop (at (resumed (point_of (fed (started offset) text))) - offset) (text ++ xs)))
+from_whole offset text xs whole =
+    let s : Machine = fed (started offset) text in
+    let r : Machine = resumed (point_of s) in
+    let st : Stands offset text s = stands offset text whole in
+    let p : Placement offset text (messages_of offset text) = placement text [] offset refl in
+    let firsts : AllFirst offset text s.parts = subst (λ (x : Parts). AllFirst offset text x) (sym st.parts) (all_first_run (messages_of offset text) offset offset text [] p.from p.starts tt) in
+    let end : StartsAt offset text (max s.until s.begin) = record { front = text; back = []; joined = append-nil text; whole = whole; place = omega (arith, st.until, st.begin) } in
+    let cut : StartsAt offset text r.begin = least_starts s.parts offset text (max s.until s.begin) firsts end in
+    let whole_back : is_whole cut.back ≡ true = back_last cut.front cut.back 0 cut.whole (ap (λ (t : List ℕ). is_whole t) cut.joined ∙ whole) in
+    let twin : Twin s.released s (fed r cut.back) = from_cut offset text cut.front cut.back s r st refl cut.joined cut.whole whole_back cut.place in
+    let left : at r - offset ≡ length cut.front = omega (arith, cut.place) in
+    let rest : drop (at r - offset) (text ++ xs) ≡ cut.back ++ xs =
+        ap (λ (n : ℕ). drop n (text ++ xs)) left ∙ ap (λ (t : List ℕ). drop (length cut.front) (t ++ xs)) (sym cut.joined)
+        ∙ ap (λ (t : List ℕ). drop (length cut.front) t) (append_assoc cut.front cut.back xs) ∙ drop_front cut.front (cut.back ++ xs) in
+    let both : Twin s.released (fed s xs) (fed (fed r cut.back) xs) = twin_fed xs s.released s (fed r cut.back) twin in
+    let P : Machine → Type 0 = λ t. Twin s.released t (fed r (drop (at r - offset) (text ++ xs))) in
+    let Q : Machine → Type 0 = λ u. Twin s.released (fed s xs) u in
+    subst P (sym (fed_append text xs (started offset))) (subst Q (sym (ap (λ (t : List ℕ). fed r t) rest ∙ fed_append cut.back xs r)) both)
+
+-- after a text whose last line may not be whole
+pub goes_on : (offset : ℕ) (text more : List ℕ)
+    → Twin (fed (started offset) text).released (fed (started offset) (text ++ more)) (fed (resumed (point_of (fed (started offset) text))) (drop (at (resumed (point_of (fed (started offset) text))) - offset) (text ++ more)))
+goes_on offset text more =
+    let split : Split text = split_of text in
+    let s : Machine = fed (started offset) split.whole in
+    let e : fed (started offset) text ≡ record s { line = s.line ++ split.rest } =
+        ap (λ (t : List ℕ). fed (started offset) t) (sym split.joined) ∙ fed_append split.whole split.rest (started offset) ∙ fed_open split.rest s split.open_end in
+    let point : point_of s ≡ point_of (fed (started offset) text) = sym (ap (λ (m : Machine). point_of m) e) in
+    let gone : s.released ≡ (fed (started offset) text).released = sym (ap (λ (m : Machine). m.released) e) in
+    let bytes : split.whole ++ (split.rest ++ more) ≡ text ++ more = sym (append_assoc split.whole split.rest more) ∙ ap (λ (t : List ℕ). t ++ more) split.joined in
+    let P : List ℕ → Type 0 = λ t. Twin s.released (fed (started offset) t) (fed (resumed (point_of s)) (drop (at (resumed (point_of s)) - offset) t)) in
+    let Q : Point → Type 0 = λ q. Twin s.released (fed (started offset) (text ++ more)) (fed (resumed q) (drop (at (resumed q) - offset) (text ++ more))) in
+    let R : List Message → Type 0 = λ g. Twin g (fed (started offset) (text ++ more)) (fed (resumed (point_of (fed (started offset) text))) (drop (at (resumed (point_of (fed (started offset) text))) - offset) (text ++ more))) in
+    subst R gone (subst Q point (subst P bytes (from_whole offset split.whole (split.rest ++ more) split.lines)))
+
+pub releases_the_rest : (offset : ℕ) (text more : List ℕ)
+    → released_in (committed offset text) ++ (fed (resumed (point_of (fed (started offset) text))) (drop (at (resumed (point_of (fed (started offset) text))) - offset) (text ++ more))).released ≡ released_in (committed offset (text ++ more))
+releases_the_rest offset text more =
+    let t : Twin (fed (started offset) text).released (fed (started offset) (text ++ more)) (fed (resumed (point_of (fed (started offset) text))) (drop (at (resumed (point_of (fed (started offset) text))) - offset) (text ++ more))) = goes_on offset text more in
+    ap (λ (ms : List Message). ms ++ (fed (resumed (point_of (fed (started offset) text))) (drop (at (resumed (point_of (fed (started offset) text))) - offset) (text ++ more))).released) (sym (fed_is_committed offset text))
+    ∙ sym t.released ∙ fed_is_committed offset (text ++ more)
+
+-- two sequencers at the same place have one checkpoint
+twin_point : (g : List Message) (t s : Machine) → Twin g t s → point_of s ≡ point_of t
+twin_point g t s a =
+    let place : max s.until s.begin ≡ max t.until t.begin = omega (arith, a.passed_t, a.passed_s, a.begin) in
+    ap (λ (n : ℕ). record { offset = n; producers = marks_of s.parts }) place
+    ∙ ap (λ (x : Parts). record { offset = max t.until t.begin; producers = marks_of x }) (sym a.parts)
+
+pub checkpoints_agree : (offset : ℕ) (text more : List ℕ)
+    → point_of (fed (resumed (point_of (fed (started offset) text))) (drop (at (resumed (point_of (fed (started offset) text))) - offset) (text ++ more))) ≡ point_of (fed (started offset) (text ++ more))
+checkpoints_agree offset text more = twin_point (fed (started offset) text).released (fed (started offset) (text ++ more)) (fed (resumed (point_of (fed (started offset) text))) (drop (at (resumed (point_of (fed (started offset) text))) - offset) (text ++ more))) (goes_on offset text more)
+
+-- ---- a front of a text commits a front
+committed_two : (ps qs : List Placed) (h : List Message) → committed_after h (ps ++ qs) ≡ committed_after h ps ++ committed_after (h ++ messages_alone ps) qs
+committed_two [] qs h = ap (λ (g : List Message). committed_after g qs) (sym (append-nil h))
+committed_two (p ∷ ps) qs h =
+    let first : List Release = map (λ m. record { message = m; end = p.end }) (released (of_producer p.message.producer h) p.message) in
+    ap (λ (rs : List Release). first ++ rs) (committed_two ps qs (h ++ p.message ∷ []) ∙ ap (λ (g : List Message). committed_after (h ++ p.message ∷ []) ps ++ committed_after g qs) (append_assoc h (p.message ∷ []) (messages_alone ps)))
+    ∙ sym (append_assoc first (committed_after (h ++ p.message ∷ []) ps) (committed_after (h ++ p.message ∷ messages_alone ps) qs))
+
+pub front_commits_front : (offset : ℕ) (front back : List ℕ) → IsPrefix (committed offset front) (committed offset (front ++ back))
+front_commits_front offset front back =
+    let h : IsPrefix (messages_of offset front) (messages_of offset (front ++ back)) = messages_prefix offset front back in
+    (committed_after ([] ++ messages_alone (messages_of offset front)) h.0, sym (committed_two (messages_of offset front) h.0 []) ∙ ap (λ (ps : List Placed). committed_after [] ps) h.1)

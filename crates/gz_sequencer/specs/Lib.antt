@@ -1,0 +1,4 @@
+pub mod Committed
+pub mod Parts
+pub mod Machine
+pub mod Calls

@@ -1,0 +1,44 @@
+//! Laws of the release rule and of sequencers.
+ghost use Rattle.std.specs.Prelude.{◌≡◌, ◌++◌, ◌-◌, ℕ, List, [], drop};
+ghost use Rattle.gz_model.specs.Prefix.{IsPrefix};
+ghost use Rattle.gz_frame.specs.Text.{Placed};
+ghost use Rattle.gz_sequencer.specs.Committed.{released_in, committed_after, committed};
+ghost use Rattle.gz_sequencer.specs.Parts.{releases_of_all};
+ghost use Rattle.gz_sequencer.specs.Machine.{started, fed, at, point_of, resumed};
+ghost use Rattle.gz_sequencer.specs.Calls.{Call, after_calls, given, text_in};
+
+/// Message by message, what is kept of each producer releases what the release rule says.
+pub fn released_is_committed()
+    ensures { (ps : List Placed) → releases_of_all 0 [] ps ≡ released_in (committed_after [] ps) }
+{}
+
+/// What a front of a text commits is a front of what the text commits.
+#[tactic(auto, using(crate::proofs::Resuming::front_commits_front))]
+pub fn front_commits_front()
+    ensures { (offset : ℕ) (front back : List ℕ) → IsPrefix (committed offset front) (committed offset (front ++ back)) }
+{}
+
+/// Whatever pieces a text is fed in, and whenever messages are taken: those that were given and those that are left
+/// are the committed messages of the text.
+#[tactic(auto, using(crate::proofs::AnyCuts::given_is_committed))]
+pub fn given_is_committed()
+    ensures { (offset : ℕ) (calls : List Call) →
+        given calls (started offset) ++ (after_calls calls (started offset)).released ≡ released_in (committed offset (text_in calls)) }
+{}
+
+/// A sequencer that is made from the checkpoint of a text, and is fed this text and what follows from the offset on
+/// that it wants: what it releases is the rest of what is committed.
+pub fn resumed_releases_the_rest()
+    ensures { (offset : ℕ) (text more : List ℕ) →
+        let resuming = resumed (point_of (fed (started offset) text)) in
+        released_in (committed offset text) ++ (fed resuming (drop (at resuming - offset) (text ++ more))).released
+            ≡ released_in (committed offset (text ++ more)) }
+{}
+
+/// Its checkpoint is then that of a sequencer that was fed all of the text. So the same holds of one that is made
+/// from that checkpoint in turn.
+pub fn resumed_checkpoints_agree()
+    ensures { (offset : ℕ) (text more : List ℕ) →
+        let resuming = resumed (point_of (fed (started offset) text)) in
+        point_of (fed resuming (drop (at resuming - offset) (text ++ more))) ≡ point_of (fed (started offset) (text ++ more)) }
+{}
