@@ -1,0 +1,4 @@
+pub mod Segments
+pub mod Counts
+pub mod Apps
+pub mod Eachs
