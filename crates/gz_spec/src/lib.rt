@@ -21,3 +21,6 @@ pub use journal::{JournalSpec, read_journal};
 pub use member::{MemberSpec, read_member};
 pub use shard::{ShardSpec, read_shard};
 pub use source::{SourceSpec, Sources};
+
+#[cfg(test)]
+mod tests;
