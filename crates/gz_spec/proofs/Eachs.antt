@@ -16,7 +16,7 @@ behind_cons : {A : Type 0} (front : List A) (a : A) (r : Result (List A) SpecErr
 behind_cons front a (Ok rest) = rw append_assoc refl
 behind_cons front a (Err e) = refl
 
-drop_here : (values : List Value) (i : ℕ) (v : Value) → i < length values → v ≡ get_or values i v → drop i values ≡ v ∷ drop (i + 1) values
+pub drop_here : {A : Type 0} (values : List A) (i : ℕ) (v : A) → i < length values → v ≡ get_or values i v → drop i values ≡ v ∷ drop (i + 1) values
 drop_here values i v below is = rw (add-one, drop-cons values i v below, ← is) refl
 
 each_step : {A : Type 0} (read : List ℕ → List (List ℕ) → Data → Result A SpecError) (name_of : A → List ℕ) (path : List ℕ) (i : ℕ) (used : List (List ℕ)) (d : Data) (ds : Items) (front : List A) (a : A)
@@ -38,3 +38,9 @@ pub more_names : {A : Type 0} (name_of : A → List ℕ) (before used more : Lis
     → used ≡ before ++ map name_of front → more ≡ used ++ name_of a ∷ [] → longer ≡ front ++ a ∷ []
     → more ≡ before ++ map name_of longer
 more_names name_of before used more front longer a e u f = rw (u, e, f, map-append, append_assoc) refl
+
+-- an item was put through a function, behind the others
+pub map_turn : {A B : Type 0} (f : A → B) (xs : List A) (i : ℕ) (x : A) (front longer : List B) (b : B)
+    → i < length xs → x ≡ get_or xs i x → b ≡ f x → longer ≡ front ++ b ∷ []
+    → longer ++ map f (drop (i + 1) xs) ≡ front ++ map f (drop i xs)
+map_turn f xs i x front longer b below is e l = rw (drop_here xs i x below is, l, e, append_assoc) refl

@@ -9,4 +9,6 @@ pub mod Labels
 pub mod Journals
 pub mod Shards
 pub mod Members
+pub mod Links
+pub mod Cycles
 pub mod Specs

@@ -1,5 +1,5 @@
 -- The specifications of a cluster as JSON: four lists.
-use Rattle.std.specs.Prelude.{ℕ, ◌+◌, List, [], ◌∷◌, length, map, Result, Ok, Err, Bool, if◌then◌else◌, codes}
+use Rattle.std.specs.Prelude.{ℕ, ◌+◌, List, [], ◌∷◌, length, map, Option, Some, None, Result, Ok, Err, Bool, if◌then◌else◌, codes}
 use Rattle.serde_json.specs.Data.{Data}
 use Rattle.gz_model.specs.Steps.{◌>>=◌}
 use Rattle.gz_spec.specs.Form.{value_of, has_only, items_or_none}
@@ -7,7 +7,11 @@ use Rattle.gz_spec.specs.Lists.{count, no_more_than, each}
 use Rattle.gz_spec.specs.Journals.{next_journal}
 use Rattle.gz_spec.specs.Shards.{next_shard}
 use Rattle.gz_spec.specs.Members.{next_member}
+use Rattle.gz_spec.specs.Paths.{at_place}
+use Rattle.gz_spec.specs.Links.{all_linked}
+use Rattle.gz_spec.specs.Cycles.{first_cycle}
 use Rattle.gz_spec.specs.declared.error.SpecError.{SpecError}
+use Rattle.gz_spec.specs.declared.error.SpecError.TheVariants.{Cycle}
 use Rattle.gz_spec.specs.declared.journal.JournalSpec.{JournalSpec}
 use Rattle.gz_spec.specs.declared.shard.ShardSpec.{ShardSpec}
 use Rattle.gz_spec.specs.declared.member.MemberSpec.{MemberSpec}
@@ -61,3 +65,26 @@ unfoldable pub part_of : List ℕ → Result Specs SpecError
 part_of bytes = do
   d ← value_of bytes
   part_in d
+
+-- ---- the shards among the journals
+
+abbrev pub cycle_if : Option ℕ → Result (Unit {0}) SpecError
+cycle_if None = Ok tt
+cycle_if (Some i) = Err (Cycle (at_place (codes "shards") i))
+
+-- No shard reaches itself. Else the first that does is told.
+unfoldable pub acyclic : List ShardSpec → Result (Unit {0}) SpecError
+acyclic shards = cycle_if (first_cycle shards)
+
+-- The journals that the shards name are there, and no shard reaches itself.
+unfoldable pub whole : Specs → Result Specs SpecError
+whole specs = do
+  _ ← all_linked specs.journals 0 specs.shards
+  _ ← acyclic specs.shards
+  Ok specs
+
+-- the four lists that a text says
+unfoldable pub specs_of : List ℕ → Result Specs SpecError
+specs_of bytes = do
+  specs ← part_of bytes
+  whole specs

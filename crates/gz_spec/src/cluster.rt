@@ -6,16 +6,19 @@ ghost use Rattle.gz_spec.specs.Lists.{count, no_more_than, each};
 ghost use Rattle.gz_spec.specs.Journals.{next_journal};
 ghost use Rattle.gz_spec.specs.Shards.{next_shard};
 ghost use Rattle.gz_spec.specs.Members.{next_member};
-ghost use Rattle.gz_spec.specs.Specs.{name_of_journal, id_of_shard, id_of_member, journals_in, shards_in, members_in, part_in, part_of};
+ghost use Rattle.gz_spec.specs.Specs.{name_of_journal, id_of_shard, id_of_member, journals_in, shards_in, members_in, part_in, part_of, acyclic, whole, specs_of};
+ghost use Rattle.gz_spec.specs.Cycles.{first_cycle, IsToldCycle};
 
 use crate::SpecError;
+use crate::cycles::first_cycle;
 use crate::form::{parse, read_items_or_none, refuse_unknown};
 use crate::journal::{JournalSpec, read_next_journal};
+use crate::links::refuse_unlinked;
 use crate::lists::refuse_long;
 use crate::member::{MemberSpec, read_next_member};
 use crate::paths::path_of_item;
 use crate::shard::{ShardSpec, read_next_shard};
-use gz_label::{Blob, Name};
+use gz_label::{Blob, Name, NoMemory};
 use indexmap::IndexSet;
 use serde_json::Value;
 use std::alloc::Global;
@@ -285,4 +288,53 @@ pub fn read_part(alloc: Global, bytes: &[u8]) -> Result<Specs, SpecError>
     let value = parse(alloc, bytes)?;
     let specs = read_part_in(alloc, &value)?;
     Ok(specs)
+}
+
+/// Refuses shards one of which reaches itself.
+#[tactic(auto, unfolding(crate::specs::Specs::acyclic))]
+fn refuse_cycle(alloc: Global, shards: &[ShardSpec]) -> Result<(), SpecError>
+    ensures { Gives (λ u. u) result (acyclic shards.now) }
+{
+    let found = first_cycle(alloc, shards)?;
+    match found {
+        None => Ok(()),
+        Some(i) => {
+            let list = Blob::of(alloc, b"shards")?;
+            let path = path_of_item(alloc, &list, i)?;
+            Err(SpecError::Cycle { path })
+        }
+    }
+}
+
+/// Refuses shards the first of which names a journal that isn't there, and then shards one of which
+/// reaches itself.
+#[tactic(auto, unfolding(crate::specs::Specs::whole))]
+fn refuse_broken(alloc: Global, specs: &Specs) -> Result<(), SpecError>
+    ensures { Gives (λ _. specs.now) result (whole specs.now) }
+{
+    refuse_unlinked(alloc, specs.journals.as_slice(), specs.shards.as_slice())?;
+    refuse_cycle(alloc, specs.shards.as_slice())?;
+    Ok(())
+}
+
+/// The four lists that the text says. A member `do` of the outermost object is passed over.
+#[tactic(auto, unfolding(crate::specs::Specs::specs_of))]
+pub fn read_specs(alloc: Global, bytes: &[u8]) -> Result<Specs, SpecError>
+    ensures { Gives (λ s. s) result (specs_of bytes.now) }
+{
+    let specs = read_part(alloc, bytes)?;
+    refuse_broken(alloc, &specs)?;
+    Ok(specs)
+}
+
+impl Specs {
+    /// The place of the first shard whose outputs reach its own sources, if there is one: a path leads
+    /// from it to itself, each shard of which writes to a journal that the next reads.
+    pub fn first_cycle(&self, alloc: Global) -> Result<Option<usize>, NoMemory>
+        ensures value { IfOk result (λ found. found ≡ first_cycle self.now.shards) }
+        ensures told { IfOk result (λ found. IsToldCycle self.now.shards found) }
+    {
+        let found = first_cycle(alloc, self.shards.as_slice())?;
+        Ok(found)
+    }
 }

@@ -3,10 +3,13 @@
 
 mod app;
 mod cluster;
+mod cycles;
 mod error;
 mod form;
+mod framing;
 mod journal;
 mod labels;
+mod links;
 mod lists;
 mod member;
 mod names;
@@ -15,8 +18,9 @@ mod shard;
 mod source;
 
 pub use app::App;
-pub use cluster::{Journals, Members, Shards, Specs, read_part};
+pub use cluster::{Journals, Members, Shards, Specs, read_part, read_specs};
 pub use error::SpecError;
+pub use framing::Framing;
 pub use journal::{JournalSpec, read_journal};
 pub use member::{MemberSpec, read_member};
 pub use shard::{ShardSpec, read_shard};
