@@ -1,0 +1,14 @@
+pub mod Outcomes
+pub mod Paths
+pub mod Form
+pub mod Names
+pub mod Lists
+pub mod Behind
+pub mod Firsts
+pub mod Labels
+pub mod Journals
+pub mod Shards
+pub mod Members
+pub mod Links
+pub mod Cycles
+pub mod Specs

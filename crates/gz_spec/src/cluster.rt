@@ -1,0 +1,340 @@
+//! The specifications of a cluster as JSON: four lists.
+ghost use Rattle.std.specs.Prelude.{◌≡◌, ◌++◌, ◌+◌, [], ◌∷◌, length, map, IfOk, codes};
+ghost use Rattle.serde_json.specs.View.{view, items_view};
+ghost use Rattle.gz_spec.specs.Outcomes.{Gives};
+ghost use Rattle.gz_spec.specs.Lists.{count, no_more_than, each};
+ghost use Rattle.gz_spec.specs.Journals.{next_journal};
+ghost use Rattle.gz_spec.specs.Shards.{next_shard};
+ghost use Rattle.gz_spec.specs.Members.{next_member};
+ghost use Rattle.gz_spec.specs.Specs.{name_of_journal, id_of_shard, id_of_member, journals_in, shards_in, members_in, part_in, part_of, acyclic, whole, specs_of};
+ghost use Rattle.gz_spec.specs.Cycles.{first_cycle, IsToldCycle};
+
+use crate::SpecError;
+use crate::cycles::first_cycle;
+use crate::form::{parse, read_items_or_none, refuse_unknown};
+use crate::journal::{JournalSpec, read_next_journal};
+use crate::links::refuse_unlinked;
+use crate::lists::refuse_long;
+use crate::member::{MemberSpec, read_next_member};
+use crate::paths::path_of_item;
+use crate::shard::{ShardSpec, read_next_shard};
+use gz_label::{Blob, Name, NoMemory};
+use indexmap::IndexSet;
+use serde_json::Value;
+use std::alloc::Global;
+use std::marker::Model;
+
+/// The most journals.
+const MAX_JOURNALS: usize = 1024;
+
+/// The most shards.
+const MAX_SHARDS: usize = 256;
+
+/// The most members, brokers and consumers together.
+const MAX_MEMBERS: usize = 64;
+
+/// Journals, which a contract sees as their list.
+#[derive(Debug, Drop)]
+pub struct Journals {
+    journals: Vec<JournalSpec>,
+}
+
+impl Model for Journals {
+    ghost use Rattle.std.specs.Prelude.{List};
+    ghost use Rattle.gz_spec.specs.declared.journal.JournalSpec.{JournalSpec};
+
+    ghost Value = { List JournalSpec };
+
+    ghost view = { λ a. a.journals.items };
+}
+
+impl Journals {
+    /// The same journals. It takes no memory.
+    pub fn of(journals: Vec<JournalSpec>) -> Journals
+        ensures { result ≡ journals.items }
+    {
+        Journals { journals }
+    }
+
+    /// Gives the journals back as a vector. It takes no memory.
+    pub fn into_vec(self) -> Vec<JournalSpec>
+        ensures { result.items ≡ self }
+    {
+        self.journals
+    }
+
+    /// The journals. It takes no memory.
+    pub fn as_slice(&self) -> &[JournalSpec]
+        ensures { result.now ≡ self.now }
+    {
+        self.journals.as_slice()
+    }
+}
+
+/// Shards, which a contract sees as their list.
+#[derive(Debug, Drop)]
+pub struct Shards {
+    shards: Vec<ShardSpec>,
+}
+
+impl Model for Shards {
+    ghost use Rattle.std.specs.Prelude.{List};
+    ghost use Rattle.gz_spec.specs.declared.shard.ShardSpec.{ShardSpec};
+
+    ghost Value = { List ShardSpec };
+
+    ghost view = { λ a. a.shards.items };
+}
+
+impl Shards {
+    /// The same shards. It takes no memory.
+    pub fn of(shards: Vec<ShardSpec>) -> Shards
+        ensures { result ≡ shards.items }
+    {
+        Shards { shards }
+    }
+
+    /// Gives the shards back as a vector. It takes no memory.
+    pub fn into_vec(self) -> Vec<ShardSpec>
+        ensures { result.items ≡ self }
+    {
+        self.shards
+    }
+
+    /// The shards. It takes no memory.
+    pub fn as_slice(&self) -> &[ShardSpec]
+        ensures { result.now ≡ self.now }
+    {
+        self.shards.as_slice()
+    }
+}
+
+/// Members, which a contract sees as their list.
+#[derive(Debug, Drop)]
+pub struct Members {
+    members: Vec<MemberSpec>,
+}
+
+impl Model for Members {
+    ghost use Rattle.std.specs.Prelude.{List};
+    ghost use Rattle.gz_spec.specs.declared.member.MemberSpec.{MemberSpec};
+
+    ghost Value = { List MemberSpec };
+
+    ghost view = { λ a. a.members.items };
+}
+
+impl Members {
+    /// The same members. It takes no memory.
+    pub fn of(members: Vec<MemberSpec>) -> Members
+        ensures { result ≡ members.items }
+    {
+        Members { members }
+    }
+
+    /// Gives the members back as a vector. It takes no memory.
+    pub fn into_vec(self) -> Vec<MemberSpec>
+        ensures { result.items ≡ self }
+    {
+        self.members
+    }
+
+    /// The members. It takes no memory.
+    pub fn as_slice(&self) -> &[MemberSpec]
+        ensures { result.now ≡ self.now }
+    {
+        self.members.as_slice()
+    }
+}
+
+/// The journals, shards and members of a cluster, each list in the order in which it was given.
+#[derive(Debug, Drop)]
+pub struct Specs {
+    /// At most 1,024, no two of one name.
+    pub journals: Journals,
+    /// At most 256, no two of one id.
+    pub shards: Shards,
+    /// With the consumers at most 64, no two of one id, and none reserved.
+    pub brokers: Members,
+    pub consumers: Members,
+}
+
+fn read_each_journal(alloc: Global, path: &Blob, values: &[Value]) -> Result<Journals, SpecError>
+    ensures { Gives (λ js. js) result (each next_journal name_of_journal path.now 0 [] (items_view values.now)) }
+{
+    let mut used = IndexSet::new(alloc);
+    let mut journals = Vec::new(alloc);
+    for (i, value) in values.iter().enumerate() {
+        let place = path_of_item(alloc, path, i)?;
+        let journal = read_next_journal(alloc, &place, &mut used, value)?;
+        journals.push(journal)?;
+    }
+    Ok(Journals { journals })
+}
+
+#[tactic(auto, unfolding(crate::specs::Specs::journals_in))]
+fn read_journals(alloc: Global, value: &Value) -> Result<Journals, SpecError>
+    ensures { Gives (λ js. js) result (journals_in (view value.now)) }
+{
+    let values = read_items_or_none(alloc, &Blob::new(alloc), value, "journals")?;
+    let path = Blob::of(alloc, b"journals")?;
+    refuse_long(&path, values, MAX_JOURNALS)?;
+    let journals = read_each_journal(alloc, &path, values)?;
+    Ok(journals)
+}
+
+fn read_each_shard(alloc: Global, path: &Blob, values: &[Value]) -> Result<Shards, SpecError>
+    ensures { Gives (λ ss. ss) result (each next_shard id_of_shard path.now 0 [] (items_view values.now)) }
+{
+    let mut used = IndexSet::new(alloc);
+    let mut shards = Vec::new(alloc);
+    for (i, value) in values.iter().enumerate() {
+        let place = path_of_item(alloc, path, i)?;
+        let shard = read_next_shard(alloc, &place, &mut used, value)?;
+        shards.push(shard)?;
+    }
+    Ok(Shards { shards })
+}
+
+#[tactic(auto, unfolding(crate::specs::Specs::shards_in))]
+fn read_shards(alloc: Global, value: &Value) -> Result<Shards, SpecError>
+    ensures { Gives (λ ss. ss) result (shards_in (view value.now)) }
+{
+    let values = read_items_or_none(alloc, &Blob::new(alloc), value, "shards")?;
+    let path = Blob::of(alloc, b"shards")?;
+    refuse_long(&path, values, MAX_SHARDS)?;
+    let shards = read_each_shard(alloc, &path, values)?;
+    Ok(shards)
+}
+
+/// The members of the list, behind members of the used ids, to which theirs are added.
+fn read_each_member(
+    alloc: Global,
+    path: &Blob,
+    used: &mut IndexSet<Name>,
+    values: &[Value],
+) -> Result<Members, SpecError>
+    ensures gives { Gives (λ ms. ms) result (each next_member id_of_member path.now 0 used.old.keys (items_view values.now)) }
+    ensures noted { IfOk result (λ ms. used.new.keys ≡ used.old.keys ++ map id_of_member ms) }
+{
+    let mut members = Vec::new(alloc);
+    for (i, value) in values.iter().enumerate() {
+        let place = path_of_item(alloc, path, i)?;
+        let member = read_next_member(alloc, &place, used, value)?;
+        members.push(member)?;
+    }
+    Ok(Members { members })
+}
+
+/// Refuses a list of members that has too many with those of the used ids.
+#[tactic(auto, using(crate::proofs::Counts::count_view))]
+fn refuse_crowd(path: &Blob, used: usize, values: &[Value]) -> Result<(), SpecError>
+    ensures { Gives (λ u. u) result (no_more_than 64 path.now (used + count (items_view values.now))) }
+{
+    if used > MAX_MEMBERS || values.len() > MAX_MEMBERS - used {
+        return Err(SpecError::BadNumber { path: path.copy()? });
+    }
+    Ok(())
+}
+
+/// The members of the list of this name, behind members of the used ids, to which theirs are added.
+#[tactic(auto, unfolding(crate::specs::Specs::members_in))]
+fn read_members(
+    alloc: Global,
+    name: &str,
+    used: &mut IndexSet<Name>,
+    value: &Value,
+) -> Result<Members, SpecError>
+    ensures gives { Gives (λ ms. ms) result (members_in name.now used.old.keys (view value.now)) }
+    ensures noted { IfOk result (λ ms. used.new.keys ≡ used.old.keys ++ map id_of_member ms) }
+{
+    let values = read_items_or_none(alloc, &Blob::new(alloc), value, name)?;
+    let path = Blob::of(alloc, name.as_bytes())?;
+    refuse_crowd(&path, used.len(), values)?;
+    let members = read_each_member(alloc, &path, used, values)?;
+    Ok(members)
+}
+
+#[tactic(auto, unfolding(crate::specs::Specs::part_in))]
+fn read_part_in(alloc: Global, value: &Value) -> Result<Specs, SpecError>
+    ensures { Gives (λ s. s) result (part_in (view value.now)) }
+{
+    let top = Blob::new(alloc);
+    refuse_unknown(
+        alloc,
+        &top,
+        value,
+        &["do", "journals", "shards", "brokers", "consumers"],
+    )?;
+    let journals = read_journals(alloc, value)?;
+    let shards = read_shards(alloc, value)?;
+    let mut used = IndexSet::new(alloc);
+    let brokers = read_members(alloc, "brokers", &mut used, value)?;
+    let consumers = read_members(alloc, "consumers", &mut used, value)?;
+    Ok(Specs {
+        journals,
+        shards,
+        brokers,
+        consumers,
+    })
+}
+
+/// The four lists that the text says, each by itself: whether the journals that the shards name are
+/// there isn't asked. A member `do` of the outermost object is passed over.
+#[tactic(auto, unfolding(crate::specs::Specs::part_of))]
+pub fn read_part(alloc: Global, bytes: &[u8]) -> Result<Specs, SpecError>
+    ensures { Gives (λ s. s) result (part_of bytes.now) }
+{
+    let value = parse(alloc, bytes)?;
+    let specs = read_part_in(alloc, &value)?;
+    Ok(specs)
+}
+
+/// Refuses shards one of which reaches itself.
+#[tactic(auto, unfolding(crate::specs::Specs::acyclic))]
+fn refuse_cycle(alloc: Global, shards: &[ShardSpec]) -> Result<(), SpecError>
+    ensures { Gives (λ u. u) result (acyclic shards.now) }
+{
+    let found = first_cycle(alloc, shards)?;
+    match found {
+        None => Ok(()),
+        Some(i) => {
+            let list = Blob::of(alloc, b"shards")?;
+            let path = path_of_item(alloc, &list, i)?;
+            Err(SpecError::Cycle { path })
+        }
+    }
+}
+
+/// Refuses shards the first of which names a journal that isn't there, and then shards one of which
+/// reaches itself.
+#[tactic(auto, unfolding(crate::specs::Specs::whole))]
+fn refuse_broken(alloc: Global, specs: &Specs) -> Result<(), SpecError>
+    ensures { Gives (λ _. specs.now) result (whole specs.now) }
+{
+    refuse_unlinked(alloc, specs.journals.as_slice(), specs.shards.as_slice())?;
+    refuse_cycle(alloc, specs.shards.as_slice())?;
+    Ok(())
+}
+
+/// The four lists that the text says. A member `do` of the outermost object is passed over.
+#[tactic(auto, unfolding(crate::specs::Specs::specs_of))]
+pub fn read_specs(alloc: Global, bytes: &[u8]) -> Result<Specs, SpecError>
+    ensures { Gives (λ s. s) result (specs_of bytes.now) }
+{
+    let specs = read_part(alloc, bytes)?;
+    refuse_broken(alloc, &specs)?;
+    Ok(specs)
+}
+
+impl Specs {
+    /// The place of the first shard whose outputs reach its own sources, if there is one: a path leads
+    /// from it to itself, each shard of which writes to a journal that the next reads.
+    pub fn first_cycle(&self, alloc: Global) -> Result<Option<usize>, NoMemory>
+        ensures value { IfOk result (λ found. found ≡ first_cycle self.now.shards) }
+        ensures told { IfOk result (λ found. IsToldCycle self.now.shards found) }
+    {
+        let found = first_cycle(alloc, self.shards.as_slice())?;
+        Ok(found)
+    }
+}

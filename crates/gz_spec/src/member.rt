@@ -1,0 +1,83 @@
+//! The members of a cluster: brokers and consumers.
+ghost use Rattle.std.specs.Prelude.{◌≡◌, ◌++◌, ◌∷◌, [], IfOk};
+ghost use Rattle.serde_json.specs.View.{view};
+ghost use Rattle.gz_spec.specs.Outcomes.{Gives};
+ghost use Rattle.gz_spec.specs.Members.{member_with, member_at, next_member, member_of};
+
+use crate::SpecError;
+use crate::form::{Range, parse, read_number, refuse_unknown};
+use crate::lists::use_name;
+use crate::names::{is_reserved, read_id};
+use crate::paths::path_below;
+use gz_label::{Blob, Name};
+use indexmap::IndexSet;
+use serde_json::Value;
+use std::alloc::Global;
+
+/// How many items a member takes.
+const LIMIT: Range = Range {
+    least: 0,
+    most: 1024,
+};
+
+/// A broker or a consumer: its id, its zone, which is of the form of an id, and how many items it
+/// takes, which are at most 1,024.
+#[derive(Debug, Drop)]
+pub struct MemberSpec {
+    pub id: Name,
+    pub zone: Name,
+    pub limit: u64,
+}
+
+/// The member of this id, by what follows the id.
+#[tactic(auto, unfolding(crate::specs::Members::member_with))]
+fn read_rest(alloc: Global, path: &Blob, id: Name, value: &Value) -> Result<MemberSpec, SpecError>
+    ensures gives { Gives (λ m. m) result (member_with path.now id (view value.now)) }
+    ensures named { IfOk result (λ m. m.id ≡ id) }
+{
+    let zone = read_id(alloc, path, value, "zone")?;
+    let limit = read_number(alloc, path, value, "limit", LIMIT)?;
+    Ok(MemberSpec { id, zone, limit })
+}
+
+/// The member in a list, behind members of the used ids, to which its id is added.
+#[tactic(auto, unfolding(crate::specs::Members::next_member))]
+pub fn read_next_member(
+    alloc: Global,
+    path: &Blob,
+    used: &mut IndexSet<Name>,
+    value: &Value,
+) -> Result<MemberSpec, SpecError>
+    ensures gives { Gives (λ m. m) result (next_member path.now used.old.keys (view value.now)) }
+    ensures noted { IfOk result (λ m. used.new.keys ≡ used.old.keys ++ m.id ∷ []) }
+{
+    refuse_unknown(alloc, path, value, &["id", "zone", "limit"])?;
+    let id = read_id(alloc, path, value, "id")?;
+    let place = path_below(alloc, path, "id")?;
+    if is_reserved(id.as_slice()) {
+        return Err(SpecError::BadName { path: place });
+    }
+    use_name(used, place, &id)?;
+    let member = read_rest(alloc, path, id, value)?;
+    Ok(member)
+}
+
+#[tactic(auto, unfolding(crate::specs::Members::member_at))]
+fn read_member_at(alloc: Global, path: &Blob, value: &Value) -> Result<MemberSpec, SpecError>
+    ensures { Gives (λ m. m) result (member_at path.now (view value.now)) }
+{
+    refuse_unknown(alloc, path, value, &["id", "zone", "limit"])?;
+    let id = read_id(alloc, path, value, "id")?;
+    let member = read_rest(alloc, path, id, value)?;
+    Ok(member)
+}
+
+/// The member that the text is, by itself: a reserved id is taken. Paths begin at the member.
+#[tactic(auto, unfolding(crate::specs::Members::member_of))]
+pub fn read_member(alloc: Global, bytes: &[u8]) -> Result<MemberSpec, SpecError>
+    ensures { Gives (λ m. m) result (member_of bytes.now) }
+{
+    let value = parse(alloc, bytes)?;
+    let member = read_member_at(alloc, &Blob::new(alloc), &value)?;
+    Ok(member)
+}
