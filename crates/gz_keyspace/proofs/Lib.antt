@@ -1,3 +1,4 @@
+pub mod FormatLemmas
 pub mod KeyLemmas
 pub mod MirrorLemmas
 pub mod RowLemmas

@@ -177,6 +177,7 @@ impl KeySpace {
         if let Some((_, mod_revision)) = self.get(&key) {
             return Err(KeyError::CompareFailed { key, mod_revision });
         }
+        // Called for its clause: no key has two leases.
         let _count = self.tables.leases.len();
         let kept = key.copy()?;
         self.tables.leases.reserve(1)?;

@@ -2,6 +2,7 @@
 #![tactic(auto)]
 
 mod error;
+mod formats;
 mod keyspace;
 mod laws;
 mod mirror;
@@ -11,6 +12,7 @@ mod table;
 mod tests;
 
 pub use error::KeyError;
+pub use formats::read_sync;
 pub use keyspace::KeySpace;
 pub use laws::mirrors_agree;
 pub use mirror::Mirror;

@@ -2,7 +2,7 @@
 
 ghost use Rattle.std.specs.Prelude.{◌≤◌, length};
 
-use crate::{KeyError, KeySpace, Mirror};
+use crate::{KeyError, KeySpace, Mirror, read_sync};
 use gz_label::{Blob, Compare, KeyWrite, Name};
 use std::alloc::Global;
 use std::test::Fail;
@@ -133,6 +133,22 @@ fn mirrors(rt: HostRuntime) -> Result<(), Fail> {
     if let Some((value, revision)) = mirror.get(&key) {
         assert_eq!(rt; value.as_slice(), b"3".as_slice());
         assert_eq!(rt; revision, 3);
+    }
+    Ok(())
+}
+
+#[test]
+fn epochs(rt: HostRuntime) -> Result<(), Fail> {
+    for (text, number) in [
+        ("", None),
+        ("0", Some(0)),
+        ("00", None),
+        ("+1", None),
+        ("1 ", None),
+        ("18446744073709551615", Some(u64::MAX)),
+        ("18446744073709551616", None),
+    ] {
+        assert_eq!(rt; read_sync(text.as_bytes()), number, "of {text}");
     }
     Ok(())
 }
