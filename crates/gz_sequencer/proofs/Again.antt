@@ -86,7 +86,7 @@ wait_again : (first ack last : Option ℕ) (pending : List Message) (p : Placed)
     → is_end p.message ≡ false → (is_above ack p.message.clock && is_above last p.message.clock) ≡ true
     → part_after_all until (record { ack = ack; first = first; last = None; pending = [] }) ps ≡ record { ack = ack; first = first; last = last; pending = pending }
     → part_again (part_after_all until (record { ack = ack; first = Some (unwrap_or first p.begin); last = None; pending = [] }) ps) p
-        ≡ record { ack = ack; first = Some (unwrap_or first p.begin); last = Some p.message.clock; pending = pending ++ p.message ∷ [] }
+    ≡ record { ack = ack; first = Some (unwrap_or first p.begin); last = Some p.message.clock; pending = pending ++ p.message ∷ [] }
 wait_again (Some f) ack last pending p ps until s before below none waits same =
     ap (λ (x : Part). part_again x p) same ∙ rw (not_before p.begin f (omega (arith, s.before)), none, waits) refl
 wait_again None ack last pending p ps until s before below none waits same =
@@ -102,7 +102,7 @@ message_again : (e w : Bool) (part : Part) (p : Placed) (ps : List Placed) (unti
     → is_end p.message ≡ e → does_wait part p.message ≡ w
     → part_after_all until (part_at (mark_of part)) ps ≡ part
     → part_again (part_after_all until (part_at (mark_of (cond e (ended part p.message.clock) (cond w (with_waiting part p) part)))) ps) p
-        ≡ cond e (ended part p.message.clock) (cond w (with_waiting part p) part)
+    ≡ cond e (ended part p.message.clock) (cond w (with_waiting part p) part)
 message_again true w part p ps until s before below end waits same =
     ap (λ (x : Part). part_again x p) (idle_run ps until (ended part p.message.clock) (idle_none ps) below)
 message_again false true part p ps until s before below end waits same =
@@ -143,9 +143,9 @@ back_more low until ps p ih rising from below =
     let sound : IsSound part p.begin = sound_run ps low p.begin nothing (record { before = tt; last = λ h. refl; pending = λ h. refl }) f.0 r.1 in
     let after : part_after_all low nothing (ps ++ p ∷ []) ≡ part_after part p = run_append ps (p ∷ []) low nothing ∙ rw (not_below p.begin low f.1) refl in
     let again : part_again (part_after_all until (part_at (mark_of (part_after part p))) ps) p ≡ part_after part p =
-        message_again (is_end p.message) (does_wait part p.message) part p ps until sound r.1 b.0 refl refl (ih r.0 f.0 b.0) in
+    message_again (is_end p.message) (does_wait part p.message) part p ps until sound r.1 b.0 refl refl (ih r.0 f.0 b.0) in
     let read : part_after_all until (part_at (mark_of (part_after part p))) (ps ++ p ∷ []) ≡ part_again (part_after_all until (part_at (mark_of (part_after part p))) ps) p =
-        run_append ps (p ∷ []) until (part_at (mark_of (part_after part p))) ∙ rw (is_below p.begin until b.1) refl in
+    run_append ps (p ∷ []) until (part_at (mark_of (part_after part p))) ∙ rw (is_below p.begin until b.1) refl in
     ap (λ (x : Part). part_after_all until (part_at (mark_of x)) (ps ++ p ∷ [])) after ∙ read ∙ again ∙ sym after
 
 back_from : (low until : ℕ) (back front : List Placed) → ComesBack low until front → ComesBack low until (front ++ back)

@@ -42,8 +42,8 @@ ahead_byte : (b : Bool) (x : ℕ) (g : List Message) (t s : Machine) → Ahead g
     → Ahead g (cond b (after_line t (t.line ++ x ∷ [])) (record t { line = t.line ++ x ∷ [] })) (cond b (after_line s (s.line ++ x ∷ [])) (record s { line = s.line ++ x ∷ [] }))
 ahead_byte true x g t s a =
     ahead_more g g (after_line t (s.line ++ x ∷ [])) (after_line t (t.line ++ x ∷ [])) (after_line s (s.line ++ x ∷ [])) refl
-        (ap (λ (l : List ℕ). after_line t (l ++ x ∷ [])) (sym a.line))
-        (ahead_message (message_of (s.line ++ x ∷ [])) g t s (length (s.line ++ x ∷ [])) a)
+    (ap (λ (l : List ℕ). after_line t (l ++ x ∷ [])) (sym a.line))
+    (ahead_message (message_of (s.line ++ x ∷ [])) g t s (length (s.line ++ x ∷ [])) a)
 ahead_byte false x g t s a = record { until = a.until; begin = a.begin; line = ap (λ (l : List ℕ). l ++ x ∷ []) a.line; parts = a.parts; released = a.released }
 
 ahead_fed : (xs : List ℕ) (g : List Message) (t s : Machine) → Ahead g t s → Ahead g (fed t xs) (fed s xs)
@@ -51,17 +51,22 @@ ahead_fed [] g t s a = a
 ahead_fed (x ∷ xs) g t s a = ahead_fed xs g (after_byte t x) (after_byte s x) (ahead_byte (x == 10) x g t s a)
 
 ahead_taken : (g : List Message) (t s : Machine) → Ahead g t s → Ahead (g ++ take 1 s.released) t (taken s)
-ahead_taken g t s a = record { until = a.until; begin = a.begin; line = a.line; parts = a.parts;
-  released = a.released ∙ sym (append_assoc g (take 1 s.released) (drop 1 s.released) ∙ ap (λ (ms : List Message). g ++ ms) (take-append-drop 1 s.released)) }
+ahead_taken g t s a = record {
+  until = a.until;
+  begin = a.begin;
+  line = a.line;
+  parts = a.parts;
+  released = a.released ∙ sym (append_assoc g (take 1 s.released) (drop 1 s.released) ∙ ap (λ (ms : List Message). g ++ ms) (take-append-drop 1 s.released));
+}
 
 ahead_calls : (calls : List Call) (g : List Message) (t s : Machine) → Ahead g t s → Ahead (g ++ given calls s) (fed t (text_in calls)) (after_calls calls s)
 ahead_calls [] g t s a = ahead_more g (g ++ []) t t s (sym (append-nil g)) refl a
 ahead_calls ((feeds bytes) ∷ calls) g t s a =
     ahead_more (g ++ given calls (fed s bytes)) (g ++ given calls (fed s bytes)) (fed (fed t bytes) (text_in calls)) (fed t (bytes ++ text_in calls)) (after_calls calls (fed s bytes))
-        refl (sym (fed_append bytes (text_in calls) t)) (ahead_calls calls g (fed t bytes) (fed s bytes) (ahead_fed bytes g t s a))
+    refl (sym (fed_append bytes (text_in calls) t)) (ahead_calls calls g (fed t bytes) (fed s bytes) (ahead_fed bytes g t s a))
 ahead_calls (takes ∷ calls) g t s a =
     ahead_more ((g ++ take 1 s.released) ++ given calls (taken s)) (g ++ (take 1 s.released ++ given calls (taken s))) (fed t (text_in calls)) (fed t (text_in calls)) (after_calls calls (taken s))
-        (append_assoc g (take 1 s.released) (given calls (taken s))) refl (ahead_calls calls (g ++ take 1 s.released) t (taken s) (ahead_taken g t s a))
+    (append_assoc g (take 1 s.released) (given calls (taken s))) refl (ahead_calls calls (g ++ take 1 s.released) t (taken s) (ahead_taken g t s a))
 
 -- a sequencer that was fed a text from its start has released what is committed
 pub fed_is_committed : (offset : ℕ) (text : List ℕ) → (fed (started offset) text).released ≡ released_in (committed offset text)
@@ -73,5 +78,5 @@ fed_is_committed offset text =
 pub given_is_committed : (offset : ℕ) (calls : List Call) → given calls (started offset) ++ (after_calls calls (started offset)).released ≡ released_in (committed offset (text_in calls))
 given_is_committed offset calls =
     let a : Ahead (given calls (started offset)) (fed (started offset) (text_in calls)) (after_calls calls (started offset)) =
-        ahead_calls calls [] (started offset) (started offset) (record { until = refl; begin = refl; line = refl; parts = refl; released = refl }) in
+    ahead_calls calls [] (started offset) (started offset) (record { until = refl; begin = refl; line = refl; parts = refl; released = refl }) in
     sym a.released ∙ fed_is_committed offset (text_in calls)

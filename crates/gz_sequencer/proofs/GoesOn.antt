@@ -71,19 +71,19 @@ all_again low until least front back rising from below below_front below_back be
     let parts : Parts = parts_after_all low [] (front ++ back) in
     let again : Parts = parts_after_all until (parts_at (marks_of parts)) back in
     let keys : keys_of parts ≡ keys_of again =
-        sym (keys_again back until (parts_at (marks_of parts)) below_back ∙ keys_of-map_values (λ m. part_at m) (marks_of parts) ∙ keys_of-map_values (λ x. mark_of x) parts) in
+    sym (keys_again back until (parts_at (marks_of parts)) below_back ∙ keys_of-map_values (λ m. part_at m) (marks_of parts) ∙ keys_of-map_values (λ x. mark_of x) parts) in
     sym (same_parts parts again (order_run (front ++ back) low [] from order_start) keys (λ q.
-        let split : placed_of q (front ++ back) ≡ placed_of q front ++ placed_of q back = filter-append (λ p. bytes_eq p.message.producer q) front back in
-        let whole : part_of q parts ≡ part_after_all low nothing (placed_of q front ++ placed_of q back) = part_of_after_all (front ++ back) q low [] ∙ ap (λ (ps : List Placed). part_after_all low nothing ps) split in
-        let r : Rising (placed_of q front ++ placed_of q back) = subst (λ (ps : List Placed). Rising ps) split (rising_of (front ++ back) q rising) in
-        let f : AllFrom low (placed_of q front ++ placed_of q back) = subst (λ (ps : List Placed). AllFrom low ps) split (from_of (front ++ back) q low from) in
-        let b : AllBelow until (placed_of q front ++ placed_of q back) = subst (λ (ps : List Placed). AllBelow until ps) split (below_of (front ++ back) q until below) in
-        let m : AtMost least (part_after_all low nothing (placed_of q front ++ placed_of q back)).first = subst (λ (x : Part). AtMost least x.first) whole (first q) in
-        let one : part_after_all until (part_at (mark_of (part_after_all low nothing (placed_of q front ++ placed_of q back)))) (placed_of q back) ≡ part_after_all low nothing (placed_of q front ++ placed_of q back) =
-            one_again low until least (placed_of q front) (placed_of q back) r f b (below_of front q until below_front) (below_of front q least below_least) m in
-        let read : part_of q again ≡ part_after_all until (part_at (mark_of (part_of q parts))) (placed_of q back) =
-            part_of_after_all back q until (parts_at (marks_of parts)) ∙ ap (λ (x : Part). part_after_all until x (placed_of q back)) (part_of_marks q parts) in
-        sym (read ∙ ap (λ (x : Part). part_after_all until (part_at (mark_of x)) (placed_of q back)) whole ∙ one ∙ sym whole)))
+    let split : placed_of q (front ++ back) ≡ placed_of q front ++ placed_of q back = filter-append (λ p. bytes_eq p.message.producer q) front back in
+    let whole : part_of q parts ≡ part_after_all low nothing (placed_of q front ++ placed_of q back) = part_of_after_all (front ++ back) q low [] ∙ ap (λ (ps : List Placed). part_after_all low nothing ps) split in
+    let r : Rising (placed_of q front ++ placed_of q back) = subst (λ (ps : List Placed). Rising ps) split (rising_of (front ++ back) q rising) in
+    let f : AllFrom low (placed_of q front ++ placed_of q back) = subst (λ (ps : List Placed). AllFrom low ps) split (from_of (front ++ back) q low from) in
+    let b : AllBelow until (placed_of q front ++ placed_of q back) = subst (λ (ps : List Placed). AllBelow until ps) split (below_of (front ++ back) q until below) in
+    let m : AtMost least (part_after_all low nothing (placed_of q front ++ placed_of q back)).first = subst (λ (x : Part). AtMost least x.first) whole (first q) in
+    let one : part_after_all until (part_at (mark_of (part_after_all low nothing (placed_of q front ++ placed_of q back)))) (placed_of q back) ≡ part_after_all low nothing (placed_of q front ++ placed_of q back) =
+    one_again low until least (placed_of q front) (placed_of q back) r f b (below_of front q until below_front) (below_of front q least below_least) m in
+    let read : part_of q again ≡ part_after_all until (part_at (mark_of (part_of q parts))) (placed_of q back) =
+    part_of_after_all back q until (parts_at (marks_of parts)) ∙ ap (λ (x : Part). part_after_all until x (placed_of q back)) (part_of_marks q parts) in
+    sym (read ∙ ap (λ (x : Part). part_after_all until (part_at (mark_of x)) (placed_of q back)) whole ∙ one ∙ sym whole)))
 
 -- messages that are read again release nothing
 pub releases_none : (ps : List Placed) (until : ℕ) (parts : Parts) → AllBelow until ps → releases_of_all until parts ps ≡ []

@@ -37,7 +37,7 @@ pub put_next : {X Y : Type 0} (g : X → Y) (all rest more : List (List ℕ × X
 put_next {X} {Y} g all rest more done next k x y sorted so_far first put same =
     let tail : List (List ℕ × Y) = map (λ e. (e.0, g e.1)) more in
     let now : done ++ (k, y) ∷ tail ≡ map (λ e. (e.0, g e.1)) all =
-        ap (λ (z : Y). done ++ (k, z) ∷ tail) same ∙ ap (λ (es : List (List ℕ × X)). done ++ map (λ e. (e.0, g e.1)) es) (sym first) ∙ so_far in
+    ap (λ (z : Y). done ++ (k, z) ∷ tail) same ∙ ap (λ (es : List (List ℕ × X)). done ++ map (λ e. (e.0, g e.1)) es) (sym first) ∙ so_far in
     let S : List (List ℕ) → Type 0 = λ ks. IsStrictlySortedBy by_bytes ks in
     let keys : keys_of all ≡ keys_of (done ++ (k, y) ∷ tail) = sym (keys_of-map_values g all) ∙ ap (λ (es : List (List ℕ × Y)). keys_of es) (sym now) in
     ap (λ (es : List (List ℕ × Y)). es ++ tail) (put ∙ put_behind done tail k y (subst S keys sorted))

@@ -34,7 +34,7 @@ known_at (Some x) = refl
 pub part_of_marks : (q : List ℕ) (parts : Parts) → part_of q (parts_at (marks_of parts)) ≡ part_at (mark_of (part_of q parts))
 part_of_marks q parts =
     ap (λ (o : Option Part). unwrap_or o nothing) (lookup-map_values (λ m. part_at m) (is_at (by_bytes q)) (marks_of parts)
-        ∙ ap (λ (o : Option Mark). option_map (λ m. part_at m) o) (lookup-map_values (λ x. mark_of x) (is_at (by_bytes q)) parts))
+    ∙ ap (λ (o : Option Mark). option_map (λ m. part_at m) o) (lookup-map_values (λ x. mark_of x) (is_at (by_bytes q)) parts))
     ∙ known_at (lookup (is_at (by_bytes q)) parts)
 
 -- ---- the least offset is at most each first one
@@ -71,8 +71,8 @@ least_mark [] n test = tt
 least_mark (e ∷ es) n test =
     let low : ℕ = least_with e.1.pending n in
     mark_case (test e.0) (least_from low es) e.1 (lookup test es)
-        (at_most_lower e.1.pending (least_from low es) low (least_low es low) (with_first e.1.pending n))
-        (least_mark es low test)
+    (at_most_lower e.1.pending (least_from low es) low (least_low es low) (with_first e.1.pending n))
+    (least_mark es low test)
 
 first_case : (o : Option Part) (n : ℕ) → AtMostMark n (option_map (λ x. mark_of x) o) → AtMost n (unwrap_or o nothing).first
 first_case None n h = tt
@@ -81,7 +81,7 @@ first_case (Some x) n h = h
 pub least_first : (q : List ℕ) (parts : Parts) (n : ℕ) → AtMost (least_from n (marks_of parts)) (part_of q parts).first
 least_first q parts n =
     first_case (lookup (is_at (by_bytes q)) parts) (least_from n (marks_of parts))
-        (subst (λ (o : Option Mark). AtMostMark (least_from n (marks_of parts)) o) (lookup-map_values (λ x. mark_of x) (is_at (by_bytes q)) parts) (least_mark (marks_of parts) n (is_at (by_bytes q))))
+    (subst (λ (o : Option Mark). AtMostMark (least_from n (marks_of parts)) o) (lookup-map_values (λ x. mark_of x) (is_at (by_bytes q)) parts) (least_mark (marks_of parts) n (is_at (by_bytes q))))
 
 -- ---- whole lines end at the least offset
 abbrev pub FirstStarts : ℕ → List ℕ → Option ℕ → Type 0
@@ -128,8 +128,8 @@ all_first_run (p ∷ ps) until begin text parts from starts all =
     let part : Part = part_of p.message.producer parts in
     let same : insert_entry by_bytes parts p.message.producer (part_after part p) ≡ parts_after until parts p = rw (not_below p.begin until from.0) refl in
     all_first_run ps until begin text (parts_after until parts p) from.1 starts.1
-        (subst (λ (x : Parts). AllFirst begin text x) same
-            (all_first_put parts begin text p.message.producer (part_after part p) (first_after (is_end p.message) begin text part p (first_of parts begin text p.message.producer all) starts.0) all))
+    (subst (λ (x : Parts). AllFirst begin text x) same
+    (all_first_put parts begin text p.message.producer (part_after part p) (first_after (is_end p.message) begin text part p (first_of parts begin text p.message.producer all) starts.0) all))
 
 at_most_is : (m n : ℕ) → nat_le m n ≡ true → m ≤ n
 at_most_is m n h = grind (arith, common_steps)

@@ -140,10 +140,10 @@ part_of_after q until parts p = by_phase (nat_lt p.begin until)
     by_phase true =
         rw (lookup_set q p.message.producer (part_again (part_of p.message.producer parts) p) parts)
         (again_case (bytes_eq p.message.producer q) (part_again (part_of p.message.producer parts) p) (part_again (part_of q parts) p) (lookup (is_at (by_bytes q)) parts)
-            (λ (h : bytes_eq p.message.producer q ≡ true).
-                let same : p.message.producer ≡ q = same_bytes p.message.producer q h in
-                ap (λ (x : List ℕ). unwrap_or (again (part_again (part_of x parts) p) (lookup (is_at (by_bytes q)) parts)) nothing) same
-                ∙ found_again (lookup (is_at (by_bytes q)) parts) p))
+        (λ (h : bytes_eq p.message.producer q ≡ true).
+        let same : p.message.producer ≡ q = same_bytes p.message.producer q h in
+        ap (λ (x : List ℕ). unwrap_or (again (part_again (part_of x parts) p) (lookup (is_at (by_bytes q)) parts)) nothing) same
+        ∙ found_again (lookup (is_at (by_bytes q)) parts) p))
     by_phase false =
         rw (lookup_put q p.message.producer (part_after (part_of p.message.producer parts) p) parts)
         (some_case (bytes_eq p.message.producer q) (part_after (part_of p.message.producer parts) p) (lookup (is_at (by_bytes q)) parts)

@@ -60,7 +60,7 @@ from_cut offset text front back s r st same joined whole whole_back place =
     let ps_front : List Placed = messages_of offset front in
     let ps_back : List Placed = messages_of r.begin back in
     let split : messages_of offset text ≡ ps_front ++ ps_back =
-        ap (λ (t : List ℕ). messages_of offset t) (sym joined) ∙ messages_joined offset front back whole ∙ ap (λ (n : ℕ). ps_front ++ messages_of n back) (sym place) in
+    ap (λ (t : List ℕ). messages_of offset t) (sym joined) ∙ messages_joined offset front back whole ∙ ap (λ (n : ℕ). ps_front ++ messages_of n back) (sym place) in
     let p : Placement offset text (messages_of offset text) = placement text [] offset refl in
     let p_front : Placement offset front ps_front = placement front [] offset refl in
     let p_back : Placement r.begin back ps_back = placement back [] r.begin refl in
@@ -69,21 +69,21 @@ from_cut offset text front back s r st same joined whole whole_back place =
     let below_back : AllBelow (offset + length text) ps_back = all_below_higher ps_back (r.begin + length back) (offset + length text) (omega arith) p_back.below in
     let below_least : AllBelow r.begin ps_front = all_below_higher ps_front (offset + length front) r.begin (omega arith) p_front.below in
     let least : (q : List ℕ) → AtMost r.begin (part_of q (parts_after_all offset [] (ps_front ++ ps_back))).first = λ q.
-        subst (λ (x : Parts). AtMost r.begin (part_of q x).first) parts (subst (λ (n : ℕ). AtMost n (part_of q s.parts).first) (sym (ap (λ (m : Machine). m.begin) same)) (least_first q s.parts (max s.until s.begin))) in
+    subst (λ (x : Parts). AtMost r.begin (part_of q x).first) parts (subst (λ (n : ℕ). AtMost n (part_of q s.parts).first) (sym (ap (λ (m : Machine). m.begin) same)) (least_first q s.parts (max s.until s.begin))) in
     let again : parts_after_all (offset + length text) (parts_at (marks_of (parts_after_all offset [] (ps_front ++ ps_back)))) ps_back ≡ parts_after_all offset [] (ps_front ++ ps_back) =
-        all_again offset (offset + length text) r.begin ps_front ps_back
-            (subst (λ (ps : List Placed). Rising ps) split p.rising) (subst (λ (ps : List Placed). AllFrom offset ps) split p.from) (subst (λ (ps : List Placed). AllBelow (offset + length text) ps) split p.below)
-            below_front below_back below_least least in
+    all_again offset (offset + length text) r.begin ps_front ps_back
+    (subst (λ (ps : List Placed). Rising ps) split p.rising) (subst (λ (ps : List Placed). AllFrom offset ps) split p.from) (subst (λ (ps : List Placed). AllBelow (offset + length text) ps) split p.below)
+    below_front below_back below_least least in
     let read : (fed r back).parts ≡ s.parts =
-        f.parts ∙ ap (λ (ps : List Placed). parts_after_all r.until r.parts ps) texts
-        ∙ ap (λ (u : ℕ). parts_after_all u r.parts ps_back) until
-        ∙ ap (λ (x : Parts). parts_after_all (offset + length text) x ps_back) (ap (λ (m : Machine). m.parts) same ∙ ap (λ (x : Parts). parts_at (marks_of x)) parts)
-        ∙ again ∙ sym parts in
+    f.parts ∙ ap (λ (ps : List Placed). parts_after_all r.until r.parts ps) texts
+    ∙ ap (λ (u : ℕ). parts_after_all u r.parts ps_back) until
+    ∙ ap (λ (x : Parts). parts_after_all (offset + length text) x ps_back) (ap (λ (m : Machine). m.parts) same ∙ ap (λ (x : Parts). parts_at (marks_of x)) parts)
+    ∙ again ∙ sym parts in
     let released : (fed r back).released ≡ [] =
-        f.released ∙ ap (λ (ps : List Placed). r.released ++ releases_of_all r.until r.parts ps) texts
-        ∙ ap (λ (u : ℕ). r.released ++ releases_of_all u r.parts ps_back) until
-        ∙ ap (λ (ms : List Message). r.released ++ ms) (releases_none ps_back (offset + length text) r.parts below_back)
-        ∙ ap (λ (m : Machine). m.released ++ []) same in
+    f.released ∙ ap (λ (ps : List Placed). r.released ++ releases_of_all r.until r.parts ps) texts
+    ∙ ap (λ (u : ℕ). r.released ++ releases_of_all u r.parts ps_back) until
+    ∙ ap (λ (ms : List Message). r.released ++ ms) (releases_none ps_back (offset + length text) r.parts below_back)
+    ∙ ap (λ (m : Machine). m.released ++ []) same in
     record {
       passed_t = omega (arith, st.until, st.begin);
       passed_s = omega (arith, f.until, until, begin);
@@ -108,8 +108,8 @@ from_whole offset text xs whole =
     let twin : Twin s.released s (fed r cut.back) = from_cut offset text cut.front cut.back s r st refl cut.joined cut.whole whole_back cut.place in
     let left : at r - offset ≡ length cut.front = omega (arith, cut.place) in
     let rest : drop (at r - offset) (text ++ xs) ≡ cut.back ++ xs =
-        ap (λ (n : ℕ). drop n (text ++ xs)) left ∙ ap (λ (t : List ℕ). drop (length cut.front) (t ++ xs)) (sym cut.joined)
-        ∙ ap (λ (t : List ℕ). drop (length cut.front) t) (append_assoc cut.front cut.back xs) ∙ drop_front cut.front (cut.back ++ xs) in
+    ap (λ (n : ℕ). drop n (text ++ xs)) left ∙ ap (λ (t : List ℕ). drop (length cut.front) (t ++ xs)) (sym cut.joined)
+    ∙ ap (λ (t : List ℕ). drop (length cut.front) t) (append_assoc cut.front cut.back xs) ∙ drop_front cut.front (cut.back ++ xs) in
     let both : Twin s.released (fed s xs) (fed (fed r cut.back) xs) = twin_fed xs s.released s (fed r cut.back) twin in
     let P : Machine → Type 0 = λ t. Twin s.released t (fed r (drop (at r - offset) (text ++ xs))) in
     let Q : Machine → Type 0 = λ u. Twin s.released (fed s xs) u in
@@ -122,7 +122,7 @@ goes_on offset text more =
     let split : Split text = split_of text in
     let s : Machine = fed (started offset) split.whole in
     let e : fed (started offset) text ≡ record s { line = s.line ++ split.rest } =
-        ap (λ (t : List ℕ). fed (started offset) t) (sym split.joined) ∙ fed_append split.whole split.rest (started offset) ∙ fed_open split.rest s split.open_end in
+    ap (λ (t : List ℕ). fed (started offset) t) (sym split.joined) ∙ fed_append split.whole split.rest (started offset) ∙ fed_open split.rest s split.open_end in
     let point : point_of s ≡ point_of (fed (started offset) text) = sym (ap (λ (m : Machine). point_of m) e) in
     let gone : s.released ≡ (fed (started offset) text).released = sym (ap (λ (m : Machine). m.released) e) in
     let bytes : split.whole ++ (split.rest ++ more) ≡ text ++ more = sym (append_assoc split.whole split.rest more) ∙ ap (λ (t : List ℕ). t ++ more) split.joined in
@@ -161,3 +161,68 @@ pub front_commits_front : (offset : ℕ) (front back : List ℕ) → IsPrefix (c
 front_commits_front offset front back =
     let h : IsPrefix (messages_of offset front) (messages_of offset (front ++ back)) = messages_prefix offset front back in
     (committed_after ([] ++ messages_alone (messages_of offset front)) h.0, sym (committed_two (messages_of offset front) h.0 []) ∙ ap (λ (ps : List Placed). committed_after [] ps) h.1)
+
+-- ---- until the lines below its offset are read again, the checkpoint stays
+mark_same : (f ack last : Option ℕ) (pending : List Message) (w e : Bool) (p : Placed)
+    → mark_of (cond (is_from f p.begin && e) (cond w (record { ack = ack; first = Some (unwrap_or f p.begin); last = Some p.message.clock; pending = pending ++ p.message ∷ [] }) (record { ack = ack; first = f; last = last; pending = pending })) (record { ack = ack; first = f; last = last; pending = pending }))
+    ≡ record { ack = ack; pending = f }
+mark_same None ack last pending w e p = refl
+mark_same (Some f) ack last pending w e p = both_same (is_from (Some f) p.begin && e) w ack last f pending p
+  where
+    both_same : (b w : Bool) (ack last : Option ℕ) (f : ℕ) (pending : List Message) (p : Placed)
+        → mark_of (cond b (cond w (record { ack = ack; first = Some f; last = Some p.message.clock; pending = pending ++ p.message ∷ [] }) (record { ack = ack; first = Some f; last = last; pending = pending })) (record { ack = ack; first = Some f; last = last; pending = pending }))
+        ≡ record { ack = ack; pending = Some f }
+    both_same true true ack last f pending p = refl
+    both_same true false ack last f pending p = refl
+    both_same false w ack last f pending p = refl
+
+mark_again : (part : Part) (p : Placed) → mark_of (part_again part p) ≡ mark_of part
+mark_again part p = mark_same part.first part.ack part.last part.pending (does_wait part p.message) (not (is_end p.message)) p
+
+marks_set : (es : Parts) (test : List ℕ → Bool) (p : Placed) → marks_of (set_value test es (part_again (unwrap_or (lookup test es) nothing) p)) ≡ marks_of es
+marks_set [] test p = refl
+marks_set (e ∷ es) test p = by_test (test e.0) (marks_set es test p)
+  where
+    by_test : (b : Bool) → marks_of (set_value test es (part_again (unwrap_or (lookup test es) nothing) p)) ≡ marks_of es
+        → marks_of (cond b ((e.0, part_again (unwrap_or (cond b (Some e.1) (lookup test es)) nothing) p) ∷ es) (e ∷ set_value test es (part_again (unwrap_or (cond b (Some e.1) (lookup test es)) nothing) p))) ≡ marks_of (e ∷ es)
+    by_test true ih = ap (λ (m : Mark). (e.0, m) ∷ marks_of es) (mark_again e.1 p)
+    by_test false ih = ap (λ (ms : List (List ℕ × Mark)). (e.0, mark_of e.1) ∷ ms) ih
+
+marks_read : (until : ℕ) (parts : Parts) (p : Placed) → p.begin < until → marks_of (parts_after until parts p) ≡ marks_of parts
+marks_read until parts p below = rw (is_below p.begin until below) (marks_set parts (is_at (slice_cmp nat_cmp p.message.producer)) p)
+
+-- what one piece keeps: the offset of the point, the marks, and that no line is taken back
+record Holds (s t : Machine) : Type 0 where
+  until : t.until ≡ s.until
+  ahead : s.begin ≤ t.begin
+  marks : t.begin ≤ s.until → marks_of t.parts ≡ marks_of s.parts
+
+holds_message : (o : Option Message) (s : Machine) (len : ℕ) → 0 < len → Holds s (after_message o s len)
+holds_message None s len some = record { until = refl; ahead = omega arith; marks = λ h. refl }
+holds_message (Some m) s len some = record { until = refl; ahead = omega arith; marks = λ h. marks_read s.until s.parts (record { begin = s.begin; end = s.begin + len; message = m }) (omega (arith, h, some)) }
+
+holds_byte : (b : Bool) (x : ℕ) (s : Machine) → Holds s (cond b (after_line s (s.line ++ x ∷ [])) (record s { line = s.line ++ x ∷ [] }))
+holds_byte true x s = holds_message (message_of (s.line ++ x ∷ [])) s (length (s.line ++ x ∷ [])) (omega (arith, length-append s.line (x ∷ [])))
+holds_byte false x s = record { until = refl; ahead = omega arith; marks = λ h. refl }
+
+holds_both : (s t u : Machine) → Holds s t → Holds t u → Holds s u
+holds_both s t u a b = record {
+  until = b.until ∙ a.until;
+  ahead = omega (arith, a.ahead, b.ahead);
+  marks = λ (h : u.begin ≤ s.until). let x : u.begin ≤ t.until = omega (arith, h, a.until) in let y : t.begin ≤ s.until = omega (arith, h, b.ahead) in b.marks x ∙ a.marks y;
+}
+
+holds_fed : (xs : List ℕ) (s : Machine) → Holds s (fed s xs)
+holds_fed [] s = record { until = refl; ahead = omega arith; marks = λ h. refl }
+holds_fed (x ∷ xs) s = holds_both s (after_byte s x) (fed (after_byte s x) xs) (holds_byte (x == 10) x s) (holds_fed xs (after_byte s x))
+
+marks_at : (marks : List (List ℕ × Mark)) → marks_of (parts_at marks) ≡ marks
+marks_at [] = refl
+marks_at (e ∷ marks) = ap (λ (ms : List (List ℕ × Mark)). e ∷ ms) (marks_at marks)
+
+pub point_stays : (point : Point) (bytes : List ℕ) → (fed (resumed point) bytes).begin ≤ point.offset → point_of (fed (resumed point) bytes) ≡ point
+point_stays point bytes early =
+    let h : Holds (resumed point) (fed (resumed point) bytes) = holds_fed bytes (resumed point) in
+    let place : max (fed (resumed point) bytes).until (fed (resumed point) bytes).begin ≡ point.offset = omega (arith, early, h.until) in
+    ap (λ (n : ℕ). record { offset = n; producers = marks_of (fed (resumed point) bytes).parts }) place
+    ∙ ap (λ (ms : List (List ℕ × Mark)). record { offset = point.offset; producers = ms }) (h.marks early ∙ marks_at point.producers)

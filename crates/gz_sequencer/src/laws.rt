@@ -1,10 +1,10 @@
 //! Laws of the release rule and of sequencers.
-ghost use Rattle.std.specs.Prelude.{◌≡◌, ◌++◌, ◌-◌, ℕ, List, [], drop};
+ghost use Rattle.std.specs.Prelude.{◌≡◌, ◌≤◌, ◌++◌, ◌-◌, ℕ, List, [], drop};
 ghost use Rattle.gz_model.specs.Prefix.{IsPrefix};
 ghost use Rattle.gz_frame.specs.Text.{Placed};
 ghost use Rattle.gz_sequencer.specs.Committed.{released_in, committed_after, committed};
 ghost use Rattle.gz_sequencer.specs.Parts.{releases_of_all};
-ghost use Rattle.gz_sequencer.specs.Machine.{started, fed, at, point_of, resumed};
+ghost use Rattle.gz_sequencer.specs.Machine.{Point, started, fed, at, point_of, resumed};
 ghost use Rattle.gz_sequencer.specs.Calls.{Call, after_calls, given, text_in};
 
 /// Message by message, what is kept of each producer releases what the release rule says.
@@ -32,7 +32,7 @@ pub fn resumed_releases_the_rest()
     ensures { (offset : ℕ) (text more : List ℕ) →
         let resuming = resumed (point_of (fed (started offset) text)) in
         released_in (committed offset text) ++ (fed resuming (drop (at resuming - offset) (text ++ more))).released
-            ≡ released_in (committed offset (text ++ more)) }
+        ≡ released_in (committed offset (text ++ more)) }
 {}
 
 /// Its checkpoint is then that of a sequencer that was fed all of the text. So the same holds of one that is made
@@ -41,4 +41,10 @@ pub fn resumed_checkpoints_agree()
     ensures { (offset : ℕ) (text more : List ℕ) →
         let resuming = resumed (point_of (fed (started offset) text)) in
         point_of (fed resuming (drop (at resuming - offset) (text ++ more))) ≡ point_of (fed (started offset) (text ++ more)) }
+{}
+
+/// Until the lines below the offset of a checkpoint are fed again, a sequencer that is made from it has this
+/// checkpoint, unchanged.
+pub fn checkpoint_stays()
+    ensures { (point : Point) (bytes : List ℕ) → (fed (resumed point) bytes).begin ≤ point.offset → point_of (fed (resumed point) bytes) ≡ point }
 {}

@@ -10,8 +10,8 @@ mod sequencer;
 mod tests;
 
 pub use laws::{
-    front_commits_front, given_is_committed, released_is_committed, resumed_checkpoints_agree,
-    resumed_releases_the_rest,
+    checkpoint_stays, front_commits_front, given_is_committed, released_is_committed,
+    resumed_checkpoints_agree, resumed_releases_the_rest,
 };
 pub use point::{ProducerMark, SourcePoint};
 pub use sequencer::Sequencer;

@@ -41,10 +41,7 @@ impl Parts {
     }
 
     /// What is kept of producers with these marks, before the messages that wait are read again.
-    pub fn at(
-        alloc: Global,
-        marks: &BTreeMap<ProducerId, ProducerMark>,
-    ) -> Result<Parts, NoMemory>
+    pub fn at(alloc: Global, marks: &BTreeMap<ProducerId, ProducerMark>) -> Result<Parts, NoMemory>
         ensures { IfOk result (λ parts. parts ≡ map (λ e. (e.0, part_at e.1)) marks.now.entries) }
     {
         let mut entries = BTreeMap::new(alloc);

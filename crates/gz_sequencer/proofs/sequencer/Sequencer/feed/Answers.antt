@@ -15,7 +15,7 @@ lines-smaller c = smaller c.lines.rest.now c.split_at.result.1.now c.in-Some.len
 pub lines-preserved : goal.lines-preserved
 lines-preserved c =
     let moved : at c.take_line.new.self + length c.split_at.result.1.now ≡ at c.lines.self + length c.lines.rest.now =
-        at_split c.lines.rest.now c.split_at.result.0.now c.split_at.result.1.now c.in-Some.len c.lines.self c.take_line.new.self c.split_at.ensures.front c.split_at.ensures.back c.in_ok-take_line.ensures in
+    at_split c.lines.rest.now c.split_at.result.0.now c.split_at.result.1.now c.in-Some.len c.lines.self c.take_line.new.self c.split_at.ensures.front c.split_at.ensures.back c.in_ok-take_line.ensures in
     record {
       same = fed_split c.lines.rest.now c.split_at.result.0.now c.split_at.result.1.now c.in-Some.len c.lines.self c.take_line.new.self c.split_at.ensures.front c.split_at.ensures.back c.in_ok-take_line.ensures ∙ c.lines.invariant.same;
       small = omega (arith, moved, c.lines.invariant.small);
