@@ -1,5 +1,5 @@
 //! Sets of labels.
-ghost use Rattle.std.specs.Prelude.{◌≡◌, ◌≤◌, [], length, take, drop, filter, not, ◌++◌, option_to_list, IfOk, OnOk, OnErr, IsTrue, MatchOption};
+ghost use Rattle.std.specs.Prelude.{◌≡◌, ◌≤◌, [], length, take, drop, filter, not, ◌++◌, option_to_list, Ok, IfOk, OnOk, OnErr, IsTrue, MatchOption};
 ghost use Rattle.std.specs.List.{insert, list_all};
 ghost use Rattle.gz_label.specs.Outcomes.{Gives};
 ghost use Rattle.gz_label.specs.Labels.{is_label, is_label_set, put_label, put_labels, with_label, labels_named, from_name, named_front, label_in, labels_in, has_label, has_name, set_of, print_of, print_more, spelling, takes, is_taken, labels_after};
@@ -259,6 +259,7 @@ impl LabelSet {
 
     pub fn print(&self) -> Result<Blob, NoMemory>
         ensures value { IfOk result (λ text. text ≡ print_of self.now) }
+        ensures read { IfOk result (λ text. set_of text ≡ Ok self.now) }
     {
         let mut text = Blob::new(*self.labels.allocator());
         match self.as_slice() {
