@@ -1,3 +1,4 @@
+pub mod Members
 pub mod Named
 pub mod Parts
 pub mod Plain
