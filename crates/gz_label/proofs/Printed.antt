@@ -7,7 +7,7 @@ use Rattle.gz_label.specs.declared.label.Label.{Label}
 use Rattle.gz_label.specs.Labels.{spelling, print_of, print_more}
 
 -- the first label, and the others behind it
-print_first : (l : Label) (ls : List Label) → print_of (l ∷ ls) ≡ spelling l ++ print_more ls
+pub print_first : (l : Label) (ls : List Label) → print_of (l ∷ ls) ≡ spelling l ++ print_more ls
 print_first l [] = sym (append-nil (spelling l))
 print_first l (m ∷ ms) = ap (λ (text : List ℕ). spelling l ++ 44 ∷ text) (print_first m ms)
 

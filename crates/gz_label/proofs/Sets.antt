@@ -101,7 +101,7 @@ with_label-there l ms valid set there = rw (valid, there, fits (length ms) (few_
 
 -- ---- leaving some out
 
-less : (o : Ordering) → is_lt o ≡ true → o ≡ Less
+pub less : (o : Ordering) → is_lt o ≡ true → o ≡ Less
 less Less is = refl
 less Equal is = cc
 less Greater is = cc

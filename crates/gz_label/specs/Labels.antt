@@ -1,5 +1,5 @@
 -- Labels, and sets of them.
-use Rattle.std.specs.Prelude.{ℕ, ◌==◌, ◌&&◌, ◌||◌, List, [], ◌∷◌, length, map, filter, Bool, true, not, nat_le, Option, Some, None, is_some, option_to_list, Result, Ok, Err, if◌then◌else◌, ◌++◌}
+use Rattle.std.specs.Prelude.{◌≡◌, ℕ, ◌==◌, ◌&&◌, ◌||◌, List, [], ◌∷◌, length, map, filter, Bool, true, not, nat_le, Option, Some, None, is_some, option_to_list, Result, Ok, Err, if◌then◌else◌, ◌++◌}
 use Rattle.std.specs.List.{list_all, list_any, join_with_byte}
 use Rattle.std.specs.Char.{is_ascii_alphanumeric}
 use Rattle.std.specs.Str.{bytes_eq}
@@ -147,3 +147,7 @@ is_taken take l = list_any (takes l) take
 -- first what is taken goes, then what is added comes
 abbrev pub labels_after : List Label → List Label → List Label → List Label
 labels_after set take add = put_labels add (filter (λ l. not (is_taken take l)) set)
+
+-- A label is in the set after a change exactly where it was added, or was there and wasn't taken.
+abbrev pub HoldsAfter : List Label → List Label → List Label → List Label → Type 0
+HoldsAfter after set take add = (k : Label) → has_label k after ≡ (has_label k add || (has_label k set && not (is_taken take k)))

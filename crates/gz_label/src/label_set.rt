@@ -1,8 +1,8 @@
 //! Sets of labels.
-ghost use Rattle.std.specs.Prelude.{◌≡◌, ◌≤◌, [], length, take, drop, filter, not, ◌++◌, option_to_list, IfOk, OnOk, OnErr, IsTrue, MatchOption};
+ghost use Rattle.std.specs.Prelude.{◌≡◌, ◌≤◌, [], length, take, drop, filter, not, ◌++◌, option_to_list, Ok, IfOk, OnOk, OnErr, IsTrue, MatchOption};
 ghost use Rattle.std.specs.List.{insert, list_all};
 ghost use Rattle.gz_label.specs.Outcomes.{Gives};
-ghost use Rattle.gz_label.specs.Labels.{is_label, is_label_set, put_label, put_labels, with_label, labels_named, from_name, named_front, label_in, labels_in, has_label, has_name, set_of, print_of, print_more, spelling, takes, is_taken, labels_after};
+ghost use Rattle.gz_label.specs.Labels.{is_label, is_label_set, put_label, put_labels, with_label, labels_named, from_name, named_front, label_in, labels_in, has_label, has_name, set_of, print_of, print_more, spelling, takes, is_taken, labels_after, HoldsAfter};
 ghost use Rattle.gz_label.specs.Items.{items_of, limited};
 
 use crate::items::{Form, behind, find, first_bad, read_label};
@@ -259,6 +259,7 @@ impl LabelSet {
 
     pub fn print(&self) -> Result<Blob, NoMemory>
         ensures value { IfOk result (λ text. text ≡ print_of self.now) }
+        ensures read { IfOk result (λ text. set_of text ≡ Ok self.now) }
     {
         let mut text = Blob::new(*self.labels.allocator());
         match self.as_slice() {
@@ -276,6 +277,7 @@ impl LabelSet {
     #[tactic(auto, using(crate::proofs::Sets::valid_of_set))]
     pub fn apply(&self, take: &LabelSet, add: &LabelSet) -> Result<LabelSet, LabelError>
         ensures value { Gives (λ set. set) result (limited (labels_after self.now take.now add.now)) }
+        ensures members { IfOk result (λ set. HoldsAfter set self.now take.now add.now) }
     {
         let mut set = self.without(take)?;
         set.add_all(add.as_slice())?;
