@@ -1,5 +1,5 @@
 -- The application that the values of a label name.
-use Rattle.std.proofs.Common.{◌≡◌, ◌≢◌, ℕ, List, [], ◌∷◌, length, refl, arith, Option, Some, None}
+use Rattle.std.proofs.Common.{◌≡◌, ◌≢◌, ℕ, List, [], ◌∷◌, length, refl, arith, Some, None}
 use Rattle.gz_spec.specs.Firsts.{first}
 use Rattle.gz_spec.specs.Shards.{app_of, app_named}
 use Rattle.gz_spec.specs.Links.{framing_of, framing_named}

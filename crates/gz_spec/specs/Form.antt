@@ -1,12 +1,12 @@
 -- The members of a JSON object, each by its name, its place and what it is to be.
-use Rattle.std.specs.Prelude.{ℕ, ◌&&◌, List, [], ◌∷◌, Option, Some, None, option_and_then, Result, Ok, Err, Bool, if◌then◌else◌, nat_le}
-use Rattle.serde_json.specs.Data.{Data, Num, Items, no_items, Members}
+use Rattle.std.specs.Prelude.{ℕ, ◌&&◌, List, Option, Some, None, option_and_then, Result, Ok, Err, Bool, if◌then◌else◌, nat_le}
+use Rattle.serde_json.specs.Data.{Data, Items, no_items}
 use Rattle.serde_json.specs.Find.{get, as_str, as_bool, as_number, as_u64, as_array, as_object}
 use Rattle.gz_model.specs.Steps.{◌>>=◌}
 use Rattle.gz_json.specs.Json.{json_of, first_unknown}
 use Rattle.gz_spec.specs.Paths.{below}
 use Rattle.gz_spec.specs.declared.error.SpecError.{SpecError}
-use Rattle.gz_spec.specs.declared.error.SpecError.TheVariants.{NotJson, BadField, BadName, BadNumber, Twice}
+use Rattle.gz_spec.specs.declared.error.SpecError.TheVariants.{NotJson, BadField, BadName, BadNumber}
 
 -- what was found at this place; what is missing there, or of another type, is a bad field
 abbrev pub found : {A : Type 0} → List ℕ → Option A → Result A SpecError

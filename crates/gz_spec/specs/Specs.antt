@@ -1,5 +1,5 @@
 -- The specifications of a cluster as JSON: four lists.
-use Rattle.std.specs.Prelude.{ℕ, ◌+◌, List, [], ◌∷◌, length, map, Option, Some, None, Result, Ok, Err, Bool, if◌then◌else◌, codes}
+use Rattle.std.specs.Prelude.{ℕ, ◌+◌, List, [], ◌∷◌, length, map, Option, Some, None, Result, Ok, Err, codes}
 use Rattle.serde_json.specs.Data.{Data}
 use Rattle.gz_model.specs.Steps.{◌>>=◌}
 use Rattle.gz_spec.specs.Form.{value_of, has_only, items_or_none}

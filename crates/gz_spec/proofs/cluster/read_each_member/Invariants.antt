@@ -1,4 +1,4 @@
-use Rattle.std.proofs.Common.{◌≡◌, ◌++◌, drop, [], map}
+use Rattle.std.proofs.Common.{◌≡◌, ◌++◌, drop, map}
 use Rattle.serde_json.specs.View.{items_view}
 use Rattle.gz_spec.specs.Behind.{behind}
 use Rattle.gz_spec.specs.Lists.{each}
