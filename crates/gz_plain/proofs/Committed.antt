@@ -44,7 +44,7 @@ committed_two at (m ∷ xs) ys h =
     ∙ sym (append_assoc first more (committed_from line_of (at + end_of (m ∷ xs)) (h ++ m ∷ xs) ys))
 
 -- messages that one line releases end with it
-within_line : (from to end : ℕ) (ms : List Message) → from < end → end ≤ to → Within from to (map (λ m. record { message = m; end = end }) ms)
+pub within_line : (from to end : ℕ) (ms : List Message) → from < end → end ≤ to → Within from to (map (λ m. record { message = m; end = end }) ms)
 within_line from to end [] l h = tt
 within_line from to end (m ∷ ms) l h = ((l, h), within_line from to end ms l h)
 

@@ -1,7 +1,8 @@
 -- The application over one list behind another.
 use Rattle.std.proofs.Common.{◌≡◌, List, [], ◌∷◌, ◌++◌, refl, ap}
 use Rattle.gz_frame.specs.Messages.{Message}
-use Rattle.gz_plain.specs.Application.{Counts, Output, raise, output_at, state_after, outputs_after}
+use Rattle.gz_plain.specs.Application.{Counts, raise, output_at, state_after, outputs_after}
+use Rattle.gz_app.specs.Applications.{Output}
 
 -- the state after two lists
 pub state_two : (counts : Counts) (xs ys : List Message) → state_after counts (xs ++ ys) ≡ state_after (state_after counts xs) ys

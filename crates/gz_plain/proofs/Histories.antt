@@ -8,7 +8,7 @@ use Rattle.std.specs.List.{list_any}
 use Rattle.std.specs.Str.{bytes_eq}
 use Rattle.gz_frame.specs.Messages.{Message, is_end}
 use Rattle.gz_frame.specs.Release.{is_above, greater_of, greatest_from, greatest, since_end, rising, of_producer}
-use Rattle.gz_plain.specs.Application.{Output}
+use Rattle.gz_app.specs.Applications.{Output}
 use Rattle.gz_plain.specs.Plain.{lines_from}
 
 -- all messages are of the producer

@@ -4,7 +4,8 @@ use Rattle.std.proofs.lemmas.List.{append-nil}
 use Rattle.gz_frame.specs.Messages.{Message, continue_txn}
 use Rattle.gz_frame.specs.Release.{Release, committed_from, of_producer}
 use Rattle.gz_frame.specs.Line.{line_of}
-use Rattle.gz_plain.specs.Application.{Counts, Output, state_after, outputs_after}
+use Rattle.gz_plain.specs.Application.{Counts, state_after, outputs_after}
+use Rattle.gz_app.specs.Applications.{Output}
 use Rattle.gz_plain.specs.Plain.{Plain, start, landed, stepped, commit, commit_if, untaken, part, order_from, last_offset, transaction, end_of, committed, messages_of}
 use Rattle.gz_plain.specs.ExactlyOnce.{ExactlyOnce, NeverFall, read_order, outputs_in, Happening, lands, steps, after_one, after_all}
 use Rattle.gz_plain.proofs.Parts.{Within, part_inside, part_before, part_two, order_same, order_more, last_more, never_fall_more}

@@ -10,3 +10,15 @@ pub mod Fronts
 pub mod Examples
 pub mod CountLemmas
 pub mod Scanned
+pub mod Produced
+pub mod Batches
+pub mod Growth
+pub mod Takes
+pub mod Lines
+pub mod Writes
+pub mod Steps
+pub mod Lawful
+pub mod Rounds
+pub mod Settles
+pub mod Starts
+pub mod Promises

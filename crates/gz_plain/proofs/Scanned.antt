@@ -5,7 +5,8 @@ use Rattle.std.proofs.Math.Seq.{take-length}
 use Rattle.gz_frame.specs.Messages.{Message}
 use Rattle.gz_frame.specs.Line.{line_of}
 use Rattle.gz_frame.specs.Release.{is_above}
-use Rattle.gz_plain.specs.Application.{Counts, Output, state_after, outputs_after}
+use Rattle.gz_plain.specs.Application.{Counts, state_after, outputs_after}
+use Rattle.gz_app.specs.Applications.{Output}
 use Rattle.gz_plain.specs.Plain.{Plain, start, landed, stepped, commit_if, untaken, committed, messages_of, end_of, transaction}
 use Rattle.gz_plain.specs.ExactlyOnce.{read_order, ReadsAll}
 use Rattle.gz_plain.specs.Outside.{AllOutside, newer_from, newest_from}

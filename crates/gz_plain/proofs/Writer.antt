@@ -3,7 +3,7 @@ use Rattle.std.proofs.Common.{◌≡◌, ℕ, ◌+◌, ◌≤◌, List, [], ◌�
 use Rattle.gz_frame.specs.Messages.{Message}
 use Rattle.gz_frame.specs.Release.{Release, greater_of, greatest, since_end, of_producer, released, committed_from}
 use Rattle.gz_frame.specs.Line.{line_of}
-use Rattle.gz_plain.specs.Application.{Output}
+use Rattle.gz_app.specs.Applications.{Output}
 use Rattle.gz_plain.specs.Plain.{lines_from, ack_at, end_of, committed, messages_of}
 use Rattle.gz_plain.specs.ExactlyOnce.{outputs_in}
 use Rattle.gz_plain.proofs.Parts.{messages_two}

@@ -7,7 +7,7 @@ use Rattle.std.proofs.lemmas.Slice.Eq.{bytes_eq-Decides}
 use Rattle.std.specs.Str.{bytes_eq}
 use Rattle.gz_frame.specs.Messages.{Message, continue_txn}
 use Rattle.gz_frame.specs.Release.{of_producer}
-use Rattle.gz_plain.specs.Application.{Output}
+use Rattle.gz_app.specs.Applications.{Output}
 use Rattle.gz_plain.specs.Plain.{lines_from, ack_at, transaction}
 use Rattle.gz_plain.specs.ExactlyOnce.{outputs_in}
 use Rattle.gz_plain.specs.Kept.{written, joined}

@@ -7,6 +7,7 @@ use Rattle.std.specs.Map.{lookup}
 use Rattle.std.specs.BTreeMap.{insert_entry, is_at}
 use Rattle.serde_json.specs.Data.{Data, Members, object, number, unsigned, no_members, put}
 use Rattle.gz_frame.specs.Messages.{Message}
+use Rattle.gz_app.specs.Applications.{Output}
 
 -- the count of each key, in key order
 abbrev pub Counts : Type 0
@@ -22,11 +23,6 @@ raised n = min (n + 1) (2 ^ 64 - 1)
 -- the key's count is raised
 abbrev pub raise : List ℕ → Counts → Counts
 raise key counts = insert_entry (slice_cmp nat_cmp) counts key (raised (count_of key counts))
-
--- what an application puts out
-pub record Output : Type 0 where
-  pub key : List ℕ
-  pub value : List ℕ
 
 -- what a message puts out: its key, with the new count in decimal
 abbrev pub output_at : Counts → Message → Output

@@ -3,7 +3,8 @@ use Rattle.std.specs.Prelude.{◌≡◌, ◌≤◌, ℕ, List, [], ◌∷◌, ma
 use Rattle.gz_model.specs.Prefix.{IsPrefix}
 use Rattle.gz_frame.specs.Messages.{Message}
 use Rattle.gz_frame.specs.Release.{of_producer}
-use Rattle.gz_plain.specs.Application.{Output, state_after, outputs_after}
+use Rattle.gz_plain.specs.Application.{state_after, outputs_after}
+use Rattle.gz_app.specs.Applications.{Output}
 use Rattle.gz_plain.specs.Plain.{Plain, landed, stepped, committed, messages_of, order_from}
 
 -- the one order in which the shard has read its source

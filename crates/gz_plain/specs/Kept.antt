@@ -1,7 +1,8 @@
 -- What a shard keeps, whatever happens to it.
 use Rattle.std.specs.Prelude.{◌≡◌, ◌≤◌, ℕ, ◌+◌, List, [], ◌∷◌, ◌++◌, length, take, flat_map, Option, None}
 use Rattle.gz_frame.specs.Messages.{Message}
-use Rattle.gz_plain.specs.Application.{Output, state_after, outputs_after}
+use Rattle.gz_plain.specs.Application.{state_after, outputs_after}
+use Rattle.gz_app.specs.Applications.{Output}
 use Rattle.gz_plain.specs.Plain.{Plain, transaction, end_of, last_offset, committed, messages_of}
 use Rattle.gz_plain.specs.ExactlyOnce.{NeverFall, read_order}
 use Rattle.gz_plain.specs.Outside.{AllOutside, newer_from, newest_from}

@@ -4,3 +4,10 @@ pub mod ExactlyOnce
 pub mod Kept
 pub mod Shard
 pub mod Outside
+pub mod Applications
+pub mod Journals
+pub mod Sources
+pub mod Shards
+pub mod Promise
+pub mod Order
+pub mod Runs

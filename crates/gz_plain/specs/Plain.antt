@@ -3,7 +3,8 @@ use Rattle.std.specs.Prelude.{ℕ, ◌+◌, ◌&&◌, List, [], ◌∷◌, ◌++
 use Rattle.gz_frame.specs.Messages.{Message, continue_txn, ack_txn}
 use Rattle.gz_frame.specs.Release.{Release, committed_from}
 use Rattle.gz_frame.specs.Line.{line_of}
-use Rattle.gz_plain.specs.Application.{Counts, Output, state_after, outputs_after}
+use Rattle.gz_plain.specs.Application.{Counts, state_after, outputs_after}
+use Rattle.gz_app.specs.Applications.{Output}
 
 -- the text that the messages are, one line each, and its end
 abbrev pub text_of : List Message → List ℕ

@@ -5,7 +5,7 @@ ghost use Rattle.serde_json.specs.View.{view, members_view};
 ghost use Rattle.serde_json.specs.Written.{compact_text};
 ghost use Rattle.gz_plain.specs.Application.{count_of, raised, raise, output_at, data_of};
 
-use crate::outputs::Output;
+use gz_app::Output;
 use gz_frame::Message;
 use gz_label::{Blob, Name, NoMemory};
 use serde_json::{Map, Value};

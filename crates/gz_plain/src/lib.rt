@@ -3,13 +3,11 @@
 
 mod counts;
 mod laws;
-mod outputs;
 mod shard;
 mod text;
 mod write;
 
 pub use counts::Counts;
-pub use laws::{a_step_reads_all, exactly_once};
-pub use outputs::{Output, Outputs};
+pub use laws::{a_settle_ends, a_step_reads_all, every_shard_is_exactly_once, exactly_once};
 pub use shard::PlainShard;
 pub use text::MessageText;

@@ -11,9 +11,9 @@ ghost use Rattle.gz_plain.specs.Outside.{AllOutside, newer_from, newest_from};
 ghost use Rattle.gz_plain.specs.Shard.{shard_start, shard_landed, shard_stepped};
 
 use crate::counts::Counts;
-use crate::outputs::Outputs;
 use crate::text::MessageText;
 use crate::write::write_transaction;
+use gz_app::Outputs;
 use gz_frame::Message;
 use gz_label::{Blob, NoMemory};
 use gz_uuid::{Producer, ProducerId};

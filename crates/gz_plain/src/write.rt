@@ -2,8 +2,8 @@
 ghost use Rattle.std.specs.Prelude.{◌≡◌, ◌+◌, ◌≤◌, ◌++◌, ◌∷◌, [], length, OnOk};
 ghost use Rattle.gz_plain.specs.Plain.{transaction};
 
-use crate::outputs::Outputs;
 use crate::text::MessageText;
+use gz_app::Outputs;
 use gz_frame::Message;
 use gz_label::NoMemory;
 use gz_uuid::{Flags, Parts, Producer};
