@@ -7,7 +7,7 @@ use Rattle.gz_frame.specs.Messages.{Message, is_end}
 use Rattle.gz_frame.specs.Release.{is_above}
 use Rattle.gz_frame.specs.Text.{Placed}
 use Rattle.gz_sequencer.specs.Parts.{Part, nothing, does_wait, with_waiting, ended, continued, part_after, is_from, part_again}
-use Rattle.gz_sequencer.specs.Machine.{Mark, mark_of, part_at}
+use Rattle.gz_sequencer.specs.Machine.{mark_of, part_at}
 use Rattle.gz_sequencer.proofs.PartLookups.{part_step, part_after_all}
 use Rattle.gz_sequencer.proofs.PartHistories.{AllFrom}
 use Rattle.gz_sequencer.proofs.Placement.{AllBelow, Rising}

@@ -4,9 +4,9 @@ use Rattle.std.proofs.lemmas.List.{take-append-drop}
 use Rattle.gz_frame.specs.Messages.{Message}
 use Rattle.gz_frame.specs.Text.{Placed, message_of, messages_of}
 use Rattle.gz_sequencer.specs.Committed.{released_in, committed}
-use Rattle.gz_sequencer.specs.Parts.{Parts, parts_after, releases, releases_of_all}
+use Rattle.gz_sequencer.specs.Parts.{Parts, parts_after, releases}
 use Rattle.gz_sequencer.specs.Machine.{Machine, after_message, after_line, after_byte, fed, taken, started}
-use Rattle.gz_sequencer.specs.Calls.{Call, feeds, takes, after_call, after_calls, given_by, given, bytes_in, text_in}
+use Rattle.gz_sequencer.specs.Calls.{Call, feeds, takes, after_calls, given, text_in}
 use Rattle.gz_sequencer.proofs.PartHistories.{keeps_nothing, releases_are_committed}
 use Rattle.gz_sequencer.proofs.Feeding.{fed_append}
 use Rattle.gz_sequencer.proofs.FedTexts.{Follows, fed_follows}

@@ -1,13 +1,12 @@
 -- What a sequencer keeps of a text, and what it releases, come from the text's messages.
-use Rattle.std.proofs.Common.{◌≡◌, ℕ, suc, ◌+◌, ◌<◌, ◌≤◌, ◌==◌, List, [], ◌∷◌, ◌++◌, length, take, drop, refl, ap, sym, ◌∙◌, subst, Bool, true, false, cond, Option, Some, None, option_map, arith, append_assoc}
-use Rattle.std.proofs.lemmas.Grind.{common_steps}
-use Rattle.std.proofs.lemmas.List.{append-nil, length-append}
-use Rattle.gz_model.specs.Lines.{newline, line_len}
+use Rattle.std.proofs.Common.{◌≡◌, ℕ, suc, ◌+◌, ◌==◌, List, [], ◌∷◌, ◌++◌, length, take, drop, refl, ap, sym, ◌∙◌, subst, Bool, true, false, cond, Option, Some, None, option_map, append_assoc}
+use Rattle.std.proofs.lemmas.List.{append-nil}
+use Rattle.gz_model.specs.Lines.{line_len}
 use Rattle.gz_frame.specs.Messages.{Message}
 use Rattle.gz_frame.specs.Text.{Placed, placed_at, message_of, messages_of}
 use Rattle.gz_frame.proofs.Whole.{messages_of_first, no_messages}
-use Rattle.gz_sequencer.specs.Parts.{Parts, parts_after, parts_after_all, releases, releases_of_all}
-use Rattle.gz_sequencer.specs.Machine.{Machine, at, after_message, after_line, after_byte, fed}
+use Rattle.gz_sequencer.specs.Parts.{parts_after, parts_after_all, releases, releases_of_all}
+use Rattle.gz_sequencer.specs.Machine.{Machine, after_message, after_line, fed}
 
 -- one more byte of a line that isn't whole
 none_rest : (r : Option ℕ) → option_map (λ n. suc n) r ≡ None → r ≡ None

@@ -2,7 +2,7 @@
 use Rattle.std.proofs.Common.{◌≡◌, ℕ, suc, ◌+◌, ◌-◌, ◌<◌, ◌≤◌, ◌==◌, List, [], ◌∷◌, ◌++◌, length, take, drop, refl, ap, sym, ◌∙◌, Bool, true, false, cond, Option, Some, None, option_map, arith, append_assoc}
 use Rattle.std.proofs.lemmas.Grind.{common_steps}
 use Rattle.std.proofs.lemmas.List.{append-nil, length-append, length-drop, take-append-drop}
-use Rattle.gz_model.specs.Lines.{newline, line_len}
+use Rattle.gz_model.specs.Lines.{line_len}
 use Rattle.gz_frame.specs.Messages.{Message}
 use Rattle.gz_frame.specs.Text.{message_of}
 use Rattle.gz_sequencer.specs.Machine.{Machine, at, after_message, after_line, after_byte, fed}

@@ -1,27 +1,20 @@
 -- A sequencer that is made from a checkpoint goes on where the other one stood.
-use Rattle.std.proofs.Common.{◌≡◌, ℕ, ◌+◌, ◌-◌, ◌<◌, ◌≤◌, ◌==◌, List, [], ◌∷◌, ◌++◌, length, map, drop, filter, max, refl, ap, sym, ◌∙◌, subst, Bool, true, false, cond, Option, Some, None, arith, append_assoc, nat_lt}
-use Rattle.std.proofs.lemmas.Grind.{common_steps}
-use Rattle.std.proofs.lemmas.List.{append-nil, length-append}
+use Rattle.std.proofs.Common.{◌≡◌, ℕ, ◌+◌, ◌<◌, ◌≤◌, ◌==◌, List, [], ◌∷◌, ◌++◌, length, refl, ap, sym, ◌∙◌, subst, Bool, true, false, cond, Option, Some, None, arith, append_assoc}
 use Rattle.std.proofs.lemmas.List.Elements.{filter-append}
 use Rattle.std.proofs.lemmas.Map.Made.{keys_of-map_values}
 use Rattle.std.specs.Map.{keys_of}
 use Rattle.std.specs.Str.{bytes_eq}
-use Rattle.gz_model.specs.Lines.{newline, line_len}
+use Rattle.gz_model.specs.Lines.{newline}
 use Rattle.gz_frame.specs.Messages.{Message}
-use Rattle.gz_frame.specs.Text.{Placed, message_of, messages_of, last_of, is_whole}
-use Rattle.gz_frame.proofs.Whole.{Split, split_of, messages_joined}
-use Rattle.gz_sequencer.specs.Committed.{released_in, committed}
+use Rattle.gz_frame.specs.Text.{Placed, message_of, last_of, is_whole}
 use Rattle.gz_sequencer.specs.Parts.{Part, Parts, nothing, part_of, parts_after, parts_after_all, releases, releases_of_all}
-use Rattle.gz_sequencer.specs.Machine.{Machine, Mark, Point, at, after_message, after_line, after_byte, fed, mark_of, part_at, least_from, point_of, resumed, started}
+use Rattle.gz_sequencer.specs.Machine.{Machine, after_message, after_line, after_byte, fed, mark_of, part_at}
 use Rattle.gz_sequencer.proofs.PartLookups.{placed_of, part_after_all, part_of_after_all}
 use Rattle.gz_sequencer.proofs.PartHistories.{AllFrom}
-use Rattle.gz_sequencer.proofs.Feeding.{fed_append, fed_open, at_fed}
-use Rattle.gz_sequencer.proofs.FedTexts.{Follows, fed_follows}
-use Rattle.gz_sequencer.proofs.Placement.{AllBelow, Rising, StartsAt, AllStart, Placement, placement, last_of_append, eq_newline}
-use Rattle.gz_sequencer.proofs.AnyCuts.{fed_is_committed}
+use Rattle.gz_sequencer.proofs.Placement.{AllBelow, Rising, last_of_append, eq_newline}
 use Rattle.gz_sequencer.proofs.Again.{is_below, not_below, Idle, idle_none, idle_before, idle_run, run_append, comes_back}
-use Rattle.gz_sequencer.proofs.SameParts.{InOrder, order_run, order_start, keys_again, same_parts}
-use Rattle.gz_sequencer.proofs.Marks.{marks_of, parts_at, part_of_marks, AtMost, least_first, least_starts, all_first_run}
+use Rattle.gz_sequencer.proofs.SameParts.{order_run, order_start, keys_again, same_parts}
+use Rattle.gz_sequencer.proofs.Marks.{marks_of, parts_at, part_of_marks, AtMost}
 
 -- ---- the messages of one producer stand as those of all do
 from_case : (b : Bool) (p : Placed) (ps : List Placed) (n : ℕ) → n ≤ p.begin → AllFrom n ps → AllFrom n (cond b (p ∷ ps) ps)

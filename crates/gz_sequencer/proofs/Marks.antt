@@ -1,5 +1,5 @@
 -- The marks of a checkpoint: what is known of a producer from its mark, and the least offset among them.
-use Rattle.std.proofs.Common.{◌≡◌, ℕ, ◌+◌, ◌<◌, ◌≤◌, List, [], ◌∷◌, ◌++◌, length, map, min, refl, ap, sym, ◌∙◌, subst, Bool, true, false, cond, Option, Some, None, option_map, unwrap_or, arith, nat_le}
+use Rattle.std.proofs.Common.{◌≡◌, ℕ, ◌<◌, ◌≤◌, List, [], ◌∷◌, map, min, refl, ap, ◌∙◌, subst, Bool, true, false, cond, Option, Some, None, option_map, unwrap_or, arith, nat_le}
 use Rattle.std.specs.Prelude.{⊤}
 use Rattle.std.specs.Ordering.{nat_cmp, match_ordering}
 use Rattle.std.specs.declared.cmp.Ordering.{Ordering}

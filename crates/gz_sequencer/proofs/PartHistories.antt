@@ -1,5 +1,5 @@
 -- What is kept of a producer is what its history says.
-use Rattle.std.proofs.Common.{◌≡◌, ℕ, ◌<◌, ◌≤◌, List, [], ◌∷◌, ◌++◌, map, filter, refl, ap, sym, ◌∙◌, Bool, true, false, cond, Option, Some, None, arith, append_assoc, subst, ◌||◌, ◌&&◌, nat_lt, nat_le}
+use Rattle.std.proofs.Common.{◌≡◌, ℕ, ◌≤◌, List, [], ◌∷◌, ◌++◌, map, filter, refl, ap, sym, ◌∙◌, Bool, true, false, cond, Option, Some, None, arith, subst, ◌||◌, ◌&&◌, nat_lt}
 use Rattle.std.specs.Prelude.{⊤}
 use Rattle.std.specs.List.{list_any}
 use Rattle.std.specs.Str.{bytes_eq}
@@ -7,12 +7,12 @@ use Rattle.std.proofs.lemmas.Grind.{common_steps}
 use Rattle.std.proofs.lemmas.List.{append-nil, map-append}
 use Rattle.std.proofs.lemmas.List.Elements.{filter-append}
 use Rattle.std.proofs.lemmas.List.Folds.{list_any-append}
-use Rattle.gz_frame.specs.Messages.{Message, is_end, is_ack, is_outside}
-use Rattle.gz_frame.specs.Release.{Release, is_above, greater_of, greatest_from, greatest, since_end, rising, chain, released, of_producer}
+use Rattle.gz_frame.specs.Messages.{Message, is_end}
+use Rattle.gz_frame.specs.Release.{is_above, greater_of, greatest_from, greatest, since_end, rising, chain, released, of_producer}
 use Rattle.gz_frame.specs.Text.{Placed}
 use Rattle.gz_sequencer.specs.Committed.{released_in, committed_after}
-use Rattle.gz_sequencer.specs.Parts.{Part, Parts, nothing, part_of, ended, does_wait, with_waiting, continued, part_after, part_again, part_releases, parts_after, parts_after_all, releases, releases_of_all}
-use Rattle.gz_sequencer.proofs.PartLookups.{part_step, part_of_after}
+use Rattle.gz_sequencer.specs.Parts.{Part, Parts, nothing, part_of, ended, does_wait, with_waiting, continued, part_after, part_releases, parts_after, releases, releases_of_all}
+use Rattle.gz_sequencer.proofs.PartLookups.{part_of_after}
 
 -- all messages begin at or after an offset
 abbrev pub AllFrom : ℕ → List Placed → Type 0

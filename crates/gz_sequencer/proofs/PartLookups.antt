@@ -1,5 +1,5 @@
 -- What is kept of one producer, after a message of this one or of another one.
-use Rattle.std.proofs.Common.{◌≡◌, ℕ, ◌<◌, ◌≤◌, List, [], ◌∷◌, ◌++◌, filter, refl, ap, sym, ◌∙◌, Bool, true, false, cond, Option, Some, None, unwrap_or, arith, nat_lt, nat_le}
+use Rattle.std.proofs.Common.{◌≡◌, ℕ, List, [], ◌∷◌, filter, refl, ap, sym, ◌∙◌, Bool, true, false, cond, Option, Some, None, unwrap_or, nat_lt}
 use Rattle.std.specs.Ordering.{nat_cmp, is_eq, match_ordering}
 use Rattle.std.specs.declared.cmp.Ordering.{Ordering}
 use Rattle.std.specs.declared.cmp.Ordering.TheVariants.{Less, Equal, Greater}

@@ -1,19 +1,19 @@
 -- What a sequencer that is made from a checkpoint releases is the rest, and its checkpoints are those of the whole text.
-use Rattle.std.proofs.Common.{◌≡◌, ℕ, ◌+◌, ◌-◌, ◌<◌, ◌≤◌, ◌==◌, List, [], ◌∷◌, ◌++◌, length, map, drop, max, refl, ap, sym, ◌∙◌, subst, Bool, true, false, cond, not, ◌&&◌, Option, Some, None, unwrap_or, arith, append_assoc, nat_lt}
-use Rattle.std.proofs.lemmas.List.{append-nil, length-append, map-append}
+use Rattle.std.proofs.Common.{◌≡◌, ℕ, ◌+◌, ◌-◌, ◌<◌, ◌≤◌, ◌==◌, List, [], ◌∷◌, ◌++◌, length, map, drop, max, refl, ap, sym, ◌∙◌, subst, Bool, true, false, cond, not, ◌&&◌, Option, Some, None, unwrap_or, arith, append_assoc}
+use Rattle.std.proofs.lemmas.List.{append-nil, length-append}
 use Rattle.std.specs.Ordering.{nat_cmp}
 use Rattle.std.specs.Cmp.Lexicographic.{slice_cmp}
 use Rattle.std.specs.Map.{lookup, set_value}
 use Rattle.std.specs.BTreeMap.{is_at}
-use Rattle.gz_model.specs.Lines.{newline, line_len}
+use Rattle.gz_model.specs.Lines.{line_len}
 use Rattle.gz_model.specs.Prefix.{IsPrefix}
 use Rattle.gz_frame.specs.Messages.{Message, is_end}
 use Rattle.gz_frame.specs.Release.{Release, released, of_producer}
 use Rattle.gz_frame.specs.Text.{Placed, message_of, messages_of, is_whole}
 use Rattle.gz_frame.proofs.Whole.{Split, split_of, messages_joined, messages_prefix}
 use Rattle.gz_sequencer.specs.Committed.{messages_alone, released_in, committed_after, committed}
-use Rattle.gz_sequencer.specs.Parts.{Part, Parts, nothing, part_of, does_wait, with_waiting, continued, is_from, part_again, parts_after, parts_after_all, releases_of_all}
-use Rattle.gz_sequencer.specs.Machine.{Machine, Mark, Point, at, after_message, after_line, after_byte, fed, mark_of, part_at, least_from, point_of, resumed, started}
+use Rattle.gz_sequencer.specs.Parts.{Part, Parts, nothing, part_of, does_wait, is_from, part_again, parts_after, parts_after_all, releases_of_all}
+use Rattle.gz_sequencer.specs.Machine.{Machine, Mark, Point, at, after_message, after_line, after_byte, fed, mark_of, point_of, resumed, started}
 use Rattle.gz_sequencer.proofs.PartHistories.{AllFrom}
 use Rattle.gz_sequencer.proofs.Feeding.{fed_append, fed_open, at_fed}
 use Rattle.gz_sequencer.proofs.FedTexts.{Follows, fed_follows}

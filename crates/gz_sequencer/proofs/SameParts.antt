@@ -1,6 +1,6 @@
 -- What is kept of all producers, in their order: its keys, and when two such lists are one.
-use Rattle.std.proofs.Common.{◌≡◌, ℕ, ◌<◌, ◌≤◌, List, [], ◌∷◌, ◌++◌, map, refl, ap, sym, ◌∙◌, subst, Bool, true, false, cond, Option, Some, None, option_map, unwrap_or, nat_lt}
-use Rattle.std.specs.Ordering.{nat_cmp, is_eq, match_ordering, ordering_reverse}
+use Rattle.std.proofs.Common.{◌≡◌, ℕ, List, [], ◌∷◌, refl, ap, sym, ◌∙◌, subst, Bool, true, false, None}
+use Rattle.std.specs.Ordering.{nat_cmp, match_ordering, ordering_reverse}
 use Rattle.std.specs.declared.cmp.Ordering.{Ordering}
 use Rattle.std.specs.declared.cmp.Ordering.TheVariants.{Less, Equal, Greater}
 use Rattle.std.specs.Cmp.Lexicographic.{slice_cmp}
@@ -9,12 +9,11 @@ use Rattle.std.specs.List.Sorted.{IsStrictlySortedBy}
 use Rattle.std.specs.Map.{keys_of, lookup, set_value}
 use Rattle.std.specs.BTreeMap.{insert_entry, is_at}
 use Rattle.std.specs.Str.{bytes_eq}
-use Rattle.std.proofs.lemmas.Grind.{common_steps}
 use Rattle.std.proofs.lemmas.Cmp.{nat_list_cmp_total}
 use Rattle.std.proofs.lemmas.Map.{keys-set_value}
 use Rattle.std.proofs.lemmas.Slice.Eq.{bytes_eq-Decides}
 use Rattle.gz_frame.specs.Text.{Placed}
-use Rattle.gz_sequencer.specs.Parts.{Part, Parts, nothing, part_of, part_after, part_again, parts_after, parts_after_all}
+use Rattle.gz_sequencer.specs.Parts.{Part, Parts, part_of, part_after, part_again, parts_after, parts_after_all}
 use Rattle.gz_sequencer.proofs.PartLookups.{same_bytes, at_is}
 use Rattle.gz_sequencer.proofs.PartHistories.{AllFrom}
 use Rattle.gz_sequencer.proofs.Placement.{AllBelow}

@@ -1,4 +1,4 @@
-use Rattle.std.proofs.Common.{ℕ, ◌≤◌, List, [], ◌∷◌, arith}
+use Rattle.std.proofs.Common.{List, [], ◌∷◌, arith}
 use Rattle.gz_frame.specs.Text.{Placed}
 use Rattle.gz_sequencer.proofs.PartHistories.{AllFrom, keeps_nothing, releases_are_committed}
 use Rattle.gz_sequencer.proofs.laws.released_is_committed.Goals as goal

@@ -1,8 +1,7 @@
-use Rattle.std.proofs.Common.{◌≡◌, ap, ◌∙◌, refl, sym, map}
+use Rattle.std.proofs.Common.{ap, ◌∙◌}
 use Rattle.std.specs.Map.Iter.{deref_pair}
 use Rattle.std.proofs.lemmas.Map.Iter.{rest_more}
-use Rattle.gz_sequencer.specs.Parts.{Part, Parts}
-use Rattle.gz_sequencer.specs.Machine.{Mark, mark_of, part_at}
+use Rattle.gz_sequencer.specs.Machine.{Mark, part_at}
 use Rattle.gz_sequencer.proofs.InOrder.{put_next}
 use Rattle.gz_sequencer.proofs.parts.Parts.at.Goals as goal
 

@@ -1,6 +1,4 @@
-use Rattle.std.proofs.Common.{◌≡◌, ap, ◌∙◌, sym, refl, Some, None, Option}
-use Rattle.std.specs.Option.{option_copied_mut}
-use Rattle.std.specs.declared.cmp.Ordering.{Ordering}
+use Rattle.std.proofs.Common.{ap, ◌∙◌, refl}
 use Rattle.gz_frame.specs.Text.{Placed}
 use Rattle.gz_sequencer.proofs.PartLookups.{set_after, set_nothing}
 use Rattle.gz_sequencer.proofs.parts.Parts.take_again.Goals as goal

@@ -1,5 +1,5 @@
-use Rattle.std.proofs.Common.{◌≡◌, ◌+◌, ◌≤◌, ◌^◌, ◌++◌, List, ℕ, length, ap, sym, ◌∙◌, arith}
-use Rattle.gz_sequencer.specs.Machine.{Machine, at, fed}
+use Rattle.std.proofs.Common.{◌≡◌, ◌+◌, ◌++◌, List, ℕ, length, ap, sym, ◌∙◌, arith}
+use Rattle.gz_sequencer.specs.Machine.{Machine, at}
 use Rattle.gz_sequencer.proofs.Feeding.{whole_front, fed_split, at_split, smaller, fed_open}
 use Rattle.gz_sequencer.proofs.sequencer.Sequencer.feed.Goals as goal
 
