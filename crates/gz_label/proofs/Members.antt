@@ -1,9 +1,7 @@
 -- What is in a set after a change.
-use Rattle.std.proofs.Common.{◌≡◌, ℕ, ◌==◌, ◌&&◌, ◌||◌, List, [], ◌∷◌, length, filter, refl, ap, sym, ◌∙◌, cond, not, is_eq, Bool, true, false, Ordering, Less, Equal, Greater, nat_cmp}
-use Rattle.std.specs.List.{list_any}
+use Rattle.std.proofs.Common.{◌≡◌, ℕ, ◌&&◌, ◌||◌, List, [], ◌∷◌, filter, refl, ap, sym, ◌∙◌, cond, not, is_eq, Bool, true, false, Ordering, Less, Equal, Greater, nat_cmp}
 use Rattle.std.specs.Str.{bytes_eq}
 use Rattle.std.specs.Ordering.{match_ordering, ordering_then}
-use Rattle.std.specs.Cmp.{IsTotalOrder}
 use Rattle.std.specs.Cmp.Lexicographic.{slice_cmp}
 use Rattle.std.proofs.lemmas.Cmp.{nat_list_cmp_total, alike_right}
 use Rattle.std.proofs.lemmas.Map.Text.{is_eq-slice_cmp}
@@ -35,8 +33,10 @@ bytes_alike a b t same =
 -- equal labels are taken alike
 takes_alike : (m k t : Label) → same_label m k ≡ true → takes m t ≡ takes k t
 takes_alike m k t same =
-    rw (bytes_alike m.name k.name t.name (both_left (bytes_eq m.name k.name) (bytes_eq m.value k.value) same),
-      bytes_alike m.value k.value t.value (both_right (bytes_eq m.name k.name) (bytes_eq m.value k.value) same)) refl
+    rw (
+      bytes_alike m.name k.name t.name (both_left (bytes_eq m.name k.name) (bytes_eq m.value k.value) same),
+      bytes_alike m.value k.value t.value (both_right (bytes_eq m.name k.name) (bytes_eq m.value k.value) same),
+    ) refl
 
 taken_alike : (take : List Label) (m k : Label) → same_label m k ≡ true → is_taken take m ≡ is_taken take k
 taken_alike [] m k same = refl
@@ -95,7 +95,7 @@ has_untaken : (take : List Label) (k : Label) (ms : List Label) → has_label k 
 has_untaken take k [] = refl
 has_untaken take k (m ∷ ms) =
     has_kept (not (is_taken take m)) (same_label m k) (has_label k ms) (not (is_taken take k)) m k (filter (λ l. not (is_taken take l)) ms) refl
-      (λ same. ap (λ (b : Bool). not b) (taken_alike take m k same)) (has_untaken take k ms)
+    (λ same. ap (λ (b : Bool). not b) (taken_alike take m k same)) (has_untaken take k ms)
 
 -- a label is there after a change where it was added, or was there and wasn't taken
 pub has_after : (k : Label) (set take add : List Label) → has_label k (labels_after set take add) ≡ (has_label k add || (has_label k set && not (is_taken take k)))

@@ -2,12 +2,12 @@
 use Rattle.std.proofs.Common.{◌≡◌, ℕ, suc, ◌+◌, ◌-◌, ◌<◌, ◌≤◌, ◌==◌, List, [], ◌∷◌, ◌++◌, length, take, drop, refl, ap, sym, ◌∙◌, Bool, true, false, cond, eqb, nat_lt, nat_le, Option, Some, None, Ok, Err, arith}
 use Rattle.std.proofs.lemmas.Grind.{common_steps}
 use Rattle.std.proofs.lemmas.List.{length-take, length-drop}
-use Rattle.std.proofs.lemmas.Bool.{ltb-true, ltb-false, le-ltb, lt-ltb}
-use Rattle.std.specs.List.{slice_split, onto_first}
+use Rattle.std.proofs.lemmas.Bool.{ltb-true}
+use Rattle.std.specs.List.{onto_first}
 use Rattle.gz_label.specs.declared.name.LabelError.{LabelError}
 use Rattle.gz_label.specs.declared.name.LabelError.TheVariants.{BadName, TooMany, NoMemory}
 use Rattle.gz_label.specs.Outcomes.{Fails}
-use Rattle.gz_label.specs.Items.{place_of, parts_of, items_of, first_bad, limited, max_labels, put_all}
+use Rattle.gz_label.specs.Items.{place_of, parts_of, first_bad, limited, put_all}
 
 -- the items of what is left of a text
 abbrev pub items_left : Bool → List ℕ → List (List ℕ)

@@ -1,10 +1,10 @@
 -- The bytes of labels are plain, so that they are names.
-use Rattle.std.proofs.Common.{◌≡◌, ℕ, zero, suc, ◌<◌, ◌≤◌, ◌==◌, ◌&&◌, ◌||◌, List, [], ◌∷◌, length, refl, Bool, true, false, nat_le, nat_lt, Ok, IsTrue, not, arith}
+use Rattle.std.proofs.Common.{◌≡◌, ℕ, zero, suc, ◌<◌, ◌≤◌, ◌&&◌, List, [], ◌∷◌, length, refl, Bool, true, nat_le, Ok, arith}
 use Rattle.std.proofs.lemmas.Grind.{common_steps}
 use Rattle.std.specs.List.{list_all}
 use Rattle.std.specs.Str.{IsAscii}
 use Rattle.std.proofs.lemmas.Str.{IsUtf8-from_ascii}
-use Rattle.gz_label.specs.Names.{name_of, is_utf8, max_name}
+use Rattle.gz_label.specs.Names.{name_of}
 use Rattle.gz_label.specs.Labels.{is_name_byte, is_value_byte, is_label_name, is_label_value}
 use Rattle.gz_label.proofs.Sets.{both_left, both_right}
 use Rattle.gz_label.proofs.Utf8.{is_utf8_of_text}

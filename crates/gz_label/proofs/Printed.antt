@@ -1,7 +1,6 @@
 -- Labels as text.
 use Rattle.std.proofs.Common.{◌≡◌, ℕ, List, [], ◌∷◌, ◌++◌, ◌≤◌, ◌-◌, length, take, drop, get_or, sym, ap, arith}
 use Rattle.std.proofs.lemmas.List.{append-nil}
-use Rattle.std.specs.List.{join_with_byte}
 use Rattle.std.proofs.Math.Seq.{take-length}
 use Rattle.gz_label.specs.declared.label.Label.{Label}
 use Rattle.gz_label.specs.Labels.{spelling, print_of, print_more}

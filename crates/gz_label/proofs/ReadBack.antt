@@ -6,9 +6,8 @@ use Rattle.std.proofs.lemmas.List.Folds.{list_all-append}
 use Rattle.std.proofs.lemmas.Bool.{lt-ltb}
 use Rattle.std.proofs.Math.Seq.{take-append_seam, drop-append-add}
 use Rattle.std.specs.List.{list_all, onto_first}
-use Rattle.std.specs.Ordering.{ordering_reverse}
 use Rattle.gz_label.specs.declared.label.Label.{Label}
-use Rattle.gz_label.specs.Items.{place_of, has_byte, before_byte, after_byte, parts_of, items_of, first_bad}
+use Rattle.gz_label.specs.Items.{place_of, parts_of, items_of, first_bad}
 use Rattle.gz_label.specs.Labels.{is_name_byte, is_value_byte, is_label_name, is_label_value, is_label, label_cmp, comes_before, are_rising, is_label_set, put_label, put_labels, spelling, print_of, print_more, label_of, label_in, is_label_item, labels_in, set_of}
 use Rattle.gz_label.proofs.Sets.{both_left, both_right, label_total, rising_of_set, valid_of_set, limited_set, less}
 use Rattle.gz_label.proofs.Printed.{print_first}
@@ -35,9 +34,11 @@ value_bytes l valid = both_right (Rattle.std.proofs.Common.nat_le (length l.valu
 
 no_comma : (l : Label) → is_label l ≡ true → list_all (λ b. not (b == 44)) (spelling l) ≡ true
 no_comma l valid =
-    rw (list_all-append (λ (b : ℕ). not (b == 44)) l.name (61 ∷ l.value),
+    rw (
+      list_all-append (λ (b : ℕ). not (b == 44)) l.name (61 ∷ l.value),
       weaker is_name_byte (λ b. not (b == 44)) (λ b is. both_left (not (b == 44)) (not (b == 61)) (apart_name b is)) l.name (name_bytes l valid),
-      weaker is_value_byte (λ b. not (b == 44)) apart_value l.value (value_bytes l valid)) refl
+      weaker is_value_byte (λ b. not (b == 44)) apart_value l.value (value_bytes l valid),
+    ) refl
 
 no_equals : (l : Label) → is_label l ≡ true → list_all (λ b. not (b == 61)) l.name ≡ true
 no_equals l valid = weaker is_name_byte (λ b. not (b == 61)) (λ b is. both_right (not (b == 44)) (not (b == 61)) (apart_name b is)) l.name (name_bytes l valid)

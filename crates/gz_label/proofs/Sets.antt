@@ -1,5 +1,5 @@
 -- Rising lists of labels.
-use Rattle.std.proofs.Common.{◌≡◌, ℕ, suc, ◌+◌, ◌<◌, ◌≤◌, ◌&&◌, List, [], ◌∷◌, ◌++◌, length, take, drop, filter, refl, ap, sym, ◌∙◌, cond, get_or, Bool, true, false, is_lt, nat_lt, nat_le, Option, Some, None, option_to_list, Ok, arith, Ordering, Less, Equal, Greater}
+use Rattle.std.proofs.Common.{◌≡◌, ℕ, suc, ◌+◌, ◌<◌, ◌≤◌, ◌&&◌, List, [], ◌∷◌, ◌++◌, length, take, drop, filter, refl, ap, sym, ◌∙◌, cond, get_or, Bool, true, false, is_lt, nat_lt, nat_le, Some, None, option_to_list, Ok, arith, Ordering, Less, Equal, Greater}
 use Rattle.std.proofs.lemmas.Grind.{common_steps}
 use Rattle.std.specs.List.{list_all, insert}
 use Rattle.std.specs.Ordering.{match_ordering}

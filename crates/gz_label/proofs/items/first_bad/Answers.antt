@@ -1,4 +1,4 @@
-use Rattle.std.proofs.Common.{◌≡◌, ◌≤◌, ◌-◌, length, take, true, false, rules, ◌+◌, arith}
+use Rattle.std.proofs.Common.{◌≡◌, ◌-◌, length, take, true, false, rules, ◌+◌, arith}
 use Rattle.std.proofs.lemmas.List.{length-drop}
 use Rattle.gz_label.specs.Items.{place_of, items_of, first_bad}
 use Rattle.gz_label.specs.Forms.{fits}

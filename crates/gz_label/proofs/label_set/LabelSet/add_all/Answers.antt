@@ -1,4 +1,4 @@
-use Rattle.std.proofs.Common.{◌≡◌, ◌<◌, length, get_or, Ok, rules}
+use Rattle.std.proofs.Common.{◌≡◌, Ok, rules}
 use Rattle.gz_label.specs.Outcomes.{Fails}
 use Rattle.gz_label.specs.Items.{limited}
 use Rattle.gz_label.specs.Labels.{put_labels, with_label}

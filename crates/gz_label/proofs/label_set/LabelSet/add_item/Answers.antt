@@ -1,4 +1,4 @@
-use Rattle.std.proofs.Common.{◌≡◌, [], ◌∷◌, true, Some, None, option_to_list, rules}
+use Rattle.std.proofs.Common.{◌≡◌, [], ◌∷◌, true, Some, None, rules}
 use Rattle.gz_label.specs.Outcomes.{Gives}
 use Rattle.gz_label.specs.Items.{limited}
 use Rattle.gz_label.specs.Labels.{is_label, label_in, put_labels}

@@ -1,8 +1,7 @@
-use Rattle.std.proofs.Common.{◌≡◌, ◌+◌, take, drop, length, nat_lt, true, Ok, option_to_list, rules}
+use Rattle.std.proofs.Common.{◌≡◌, take, Ok, option_to_list, rules}
 use Rattle.gz_label.specs.Outcomes.{Fails}
 use Rattle.gz_label.specs.Items.{place_of, items_of, limited}
 use Rattle.gz_label.specs.Labels.{label_in, labels_in, put_labels}
-use Rattle.gz_label.proofs.Parts.{items_left}
 use Rattle.gz_label.proofs.Sets.{label_item_fails, label_item_fits, limited_set}
 use Rattle.gz_label.proofs.label_set.LabelSet.add_items.Goals as goal
 

@@ -1,4 +1,4 @@
-use Rattle.std.proofs.Common.{◌≡◌, ◌++◌, Ok, refl, ◌∙◌, rules}
+use Rattle.std.proofs.Common.{◌≡◌, Ok, refl, ◌∙◌, rules}
 use Rattle.gz_label.specs.Labels.{spelling, print_of, set_of}
 use Rattle.gz_label.proofs.Printed.{print_from}
 use Rattle.gz_label.proofs.ReadBack.{read_back}

@@ -1,8 +1,7 @@
-use Rattle.std.proofs.Common.{◌≡◌, ◌+◌, take, drop, length, nat_lt, true, Ok, option_to_list, rules}
+use Rattle.std.proofs.Common.{◌≡◌, take, Ok, option_to_list, rules}
 use Rattle.gz_label.specs.Outcomes.{Fails}
 use Rattle.gz_label.specs.Items.{place_of, items_of, limited}
 use Rattle.gz_label.specs.Selectors.{term_in, terms_in, with_terms}
-use Rattle.gz_label.proofs.Parts.{items_left}
 use Rattle.gz_label.proofs.Terms.{term_item_fails, term_item_fits}
 use Rattle.gz_label.proofs.selector.Selector.add_items.Goals as goal
 
