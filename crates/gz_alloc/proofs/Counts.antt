@@ -38,8 +38,8 @@ pub total_at : (net : Net) (x y : Cells) (i m : ℕ) (old new : Bool) → Differ
 total_at net x y i m old new d = join (total net y) (total net x) (row net x i) (row net y i) (when old 1) (when new 1)
     (sum_to_but (items net) (λ j. row net y j) (λ j. row net x j) i d.item (λ j lj ne. row_other net x y i m old new d j ne)) (row_at net x y i m old new d)
   where
-  join : (a b c d u v : ℕ) → a + c ≡ b + d → d + u ≡ c + v → a + u ≡ b + v
-  join a b c d u v p q = omega arith
+    join : (a b c d u v : ℕ) → a + c ≡ b + d → d + u ≡ c + v → a + u ≡ b + v
+    join a b c d u v p q = omega arith
 
 -- a table of flags with one changed
 pub differs_set : (net : Net) (flags : List Bool) → IsNet net → IsTable net flags → (i m : ℕ) (old new : Bool) → i < items net → m < members net → cells_of flags i m ≡ old →
@@ -52,9 +52,11 @@ differs_set net flags ok table i m old new li lm e = record {
   others = λ j n ln ne. get_or-set_other flags (64 * i + m) (64 * j + n) new false (λ same. ne (the_item j n (members net) same lm ln ok.few_members) (the_member j n (members net) same lm ln ok.few_members));
 }
   where
-  within : (l n k : ℕ) → l ≡ 64 * n → i < n → m < k → k ≤ 64 → 64 * i + m < l
-  within l n k p q r s = omega arith
-  the_item : (j n k : ℕ) → 64 * j + n ≡ 64 * i + m → m < k → n < k → k ≤ 64 → j ≡ i
-  the_item j n k p q r s = omega arith
-  the_member : (j n k : ℕ) → 64 * j + n ≡ 64 * i + m → m < k → n < k → k ≤ 64 → n ≡ m
-  the_member j n k p q r s = omega arith
+    within : (l n k : ℕ) → l ≡ 64 * n → i < n → m < k → k ≤ 64 → 64 * i + m < l
+    within l n k p q r s = omega arith
+
+    the_item : (j n k : ℕ) → 64 * j + n ≡ 64 * i + m → m < k → n < k → k ≤ 64 → j ≡ i
+    the_item j n k p q r s = omega arith
+
+    the_member : (j n k : ℕ) → 64 * j + n ≡ 64 * i + m → m < k → n < k → k ≤ 64 → n ≡ m
+    the_member j n k p q r s = omega arith

@@ -4,3 +4,7 @@ pub mod SearchLemmas
 pub mod Cuts
 pub mod Counts
 pub mod Walk
+pub mod NameLemmas
+pub mod TableLemmas
+pub mod PickLemmas
+pub mod Certificate

@@ -48,9 +48,9 @@ pub count_to_le : (n : ℕ) (p : ℕ → Bool) → count_to n p ≤ n
 count_to_le zero p = omega arith
 count_to_le (suc n) p = let front : count_to n p ≤ n = count_to_le n p in let last : when (p n) 1 ≤ 1 = when_below (p n) 1 in omega arith
   where
-  when_below : (b : Bool) (v : ℕ) → when b v ≤ v
-  when_below true v = omega arith
-  when_below false v = omega arith
+    when_below : (b : Bool) (v : ℕ) → when b v ≤ v
+    when_below true v = omega arith
+    when_below false v = omega arith
 
 pub count_to_more : (n : ℕ) (p : ℕ → Bool) → count_to (n + 1) p ≡ count_to n p + when (p n) 1
 count_to_more n p = rw add-one refl
@@ -63,10 +63,13 @@ count_to_room (suc n) p j h e = ⊎_elim
     (λ (ne : j ≢ n). let front : count_to n p + 1 ≤ n = count_to_room n p j (omega arith) e in let last : when (p n) 1 ≤ 1 = at_most_one (p n) in omega arith)
     (cases_eq j n)
   where
-  at_most_one : (b : Bool) → when b 1 ≤ 1
-  at_most_one true = omega arith
-  at_most_one false = omega arith
+    at_most_one : (b : Bool) → when b 1 ≤ 1
+    at_most_one true = omega arith
+    at_most_one false = omega arith
 
 pub sum_to_most : (n : ℕ) (f : ℕ → ℕ) → ((i : ℕ) → i < n → f i ≤ 64) → sum_to n f ≤ 64 * n
 sum_to_most zero f h = omega arith
 sum_to_most (suc n) f h = let front : sum_to n f ≤ 64 * n = sum_to_most n f (λ i p. h i (omega arith)) in let last : f n ≤ 64 = h n (omega arith) in omega arith
+
+pub sum_to_more : (n : ℕ) (f : ℕ → ℕ) → sum_to (n + 1) f ≡ sum_to n f + f n
+sum_to_more n f = rw add-one refl

@@ -1,7 +1,13 @@
 //! Placements: which members hold which items.
 #![tactic(auto)]
 
+mod feasible;
 mod laws;
 mod network;
+mod problem;
 mod search;
 mod solve;
+mod table;
+
+pub use laws::{no_placement_passes_a_cut, no_table_passes_a_cut};
+pub use problem::{Cut, Item, Member, Placement, Problem};

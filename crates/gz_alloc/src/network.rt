@@ -1,5 +1,5 @@
 //! A problem by numbers, and the tables that keep its bounds.
-ghost use Rattle.std.specs.Prelude.{◌≡◌, ℕ, ◌+◌, ◌*◌, ◌<◌, length, IsTrue, ◌↔◌};
+ghost use Rattle.std.specs.Prelude.{◌≡◌, ℕ, ◌+◌, ◌*◌, ◌<◌, ◌≤◌, length, IsTrue, ◌↔◌};
 ghost use Rattle.gz_alloc.specs.Flow.{Net, IsNet, IsTable, items, members, replicas, limit, zone, cells_of, set_cell, row, load, in_zone, zone_bound};
 
 use std::marker::Model;
@@ -100,7 +100,8 @@ impl Network {
         requires net { IsNet self.now }
         requires table { IsTable self.now flags.now }
         requires within { i < items self.now }
-        ensures { result ≡ row self.now (cells_of flags.now) i }
+        ensures count { result ≡ row self.now (cells_of flags.now) i }
+        ensures few { result ≤ 64 }
     {
         let mut count = 0;
         for m in 0..self.members() {

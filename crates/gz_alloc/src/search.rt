@@ -1,7 +1,7 @@
 //! The search for a place: which members can take one more item, by moving others.
-ghost use Rattle.std.specs.Prelude.{◌≡◌, ℕ, ◌+◌, ◌^◌, ◌<◌, ◌≤◌, ◌⊎◌, length, true, false, IfOk, IfSome, IfNone};
+ghost use Rattle.std.specs.Prelude.{◌≡◌, ℕ, ◌+◌, ◌^◌, ◌<◌, ◌≤◌, ◌⊎◌, length, true, false, nat_lt, IfOk, IfSome, IfNone};
 ghost use Rattle.gz_alloc.specs.Flow.{IsNet, IsTable, items, members, limit, zone, cells_of, load};
-ghost use Rattle.gz_alloc.specs.Search.{Marks, target, rank, mover, to, CanMove, IsSearch, EachTaken, IsTaken, IsPassed, IsWanted, IsWhole, IsTarget, Opens, Advances, IsPassedAt, IsRoomy, IsStart, open_at, aim_at, new_marks};
+ghost use Rattle.gz_alloc.specs.Search.{Marks, target, rank, mover, to, is_open, CanMove, IsSearch, EachTaken, IsTaken, IsPassed, IsWanted, IsWhole, IsTarget, Opens, Advances, IsPassedAt, IsRoomy, IsStart, open_at, aim_at, new_marks};
 
 use crate::network::{Network, bound_of, cell};
 use gz_label::NoMemory;
@@ -60,6 +60,22 @@ impl Search {
         self.ranks[m]
     }
 
+    /// Whether the member has a way.
+    pub(crate) fn has_way(&self, m: usize) -> bool
+        requires { m < length self.now.ranks }
+        ensures { result ≡ is_open self.now m }
+    {
+        self.ranks[m] < NONE
+    }
+
+    /// Whether the item has a target.
+    pub(crate) fn has_target(&self, b: usize) -> bool
+        requires { b < length self.now.targets }
+        ensures { result ≡ nat_lt (target self.now b) 64 }
+    {
+        self.targets[b] < NONE
+    }
+
     /// The item that moves from the member.
     pub(crate) fn mover(&self, m: usize) -> usize
         requires { m < length self.now.movers }
@@ -99,7 +115,15 @@ impl Search {
     }
 
     /// The member m has a way from now on, where it had none, if the item b is placed on it and may move to t.
-    fn open_one(&mut self, network: &Network, flags: &[bool], b: usize, t: usize, whole: bool, m: usize)
+    fn open_one(
+        &mut self,
+        network: &Network,
+        flags: &[bool],
+        b: usize,
+        t: usize,
+        whole: bool,
+        m: usize,
+    )
         requires net { IsNet network.now }
         requires table { IsTable network.now flags.now }
         requires search { IsSearch network.now (cells_of flags.now) self.old }
@@ -192,7 +216,12 @@ impl Search {
 
     /// Goes on from each member that has this rank, if any. An item that is placed too seldom and may be placed on
     /// a member that has a way, with the member, where there is one.
-    fn visit_rank(&mut self, network: &Network, flags: &[bool], head: usize) -> Option<(usize, usize)>
+    fn visit_rank(
+        &mut self,
+        network: &Network,
+        flags: &[bool],
+        head: usize,
+    ) -> Option<(usize, usize)>
         requires net { IsNet network.now }
         requires table { IsTable network.now flags.now }
         requires search { IsSearch network.now (cells_of flags.now) self.old }
@@ -236,7 +265,11 @@ impl Search {
     }
 
     /// A search in which the members with room have a way.
-    pub(crate) fn start(alloc: Global, network: &Network, flags: &[bool]) -> Result<Search, NoMemory>
+    pub(crate) fn start(
+        alloc: Global,
+        network: &Network,
+        flags: &[bool],
+    ) -> Result<Search, NoMemory>
         requires net { IsNet network.now }
         requires table { IsTable network.now flags.now }
         ensures { IfOk result (λ search. IsStart network.now (cells_of flags.now) search) }

@@ -31,7 +31,11 @@ fn add_pair(network: &Network, flags: &mut [bool], search: &Search, b: usize, t:
 }
 
 /// Adds pairs, moving items where there is need, until there are as many as can be. The search that ends it.
-pub(crate) fn solve(alloc: Global, network: &Network, flags: &mut [bool]) -> Result<Search, NoMemory>
+pub(crate) fn solve(
+    alloc: Global,
+    network: &Network,
+    flags: &mut [bool],
+) -> Result<Search, NoMemory>
     requires net { IsNet network.now }
     requires table { IsTable network.now flags.old }
     requires keeps { Keeps network.now (cells_of flags.old) }

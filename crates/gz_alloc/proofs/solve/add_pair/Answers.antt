@@ -13,5 +13,5 @@ way-preserved c =
     let table : IsTable c.args.network.now c.way.flags = omega arith in
     let over : limit c.args.network.now c.way.at < load c.args.network.now (cells_of c.way.flags) c.way.at = omega arith in
     let step = walk_step c.args.network.now c.way.flags c.set-in-way.new.flags c.set-in-way-2.new.flags c.args.search.now c.way.at c.mover-mover.result c.to-next.result c.requires.net table c.way.invariant.walk over
-        c.mover-mover.ensures c.to-next.ensures c.set-in-way.ensures c.set-in-way-2.ensures in
+    c.mover-mover.ensures c.to-next.ensures c.set-in-way.ensures c.set-in-way-2.ensures in
     record { walk = step.0; more = step.1 ∙ c.way.invariant.more }

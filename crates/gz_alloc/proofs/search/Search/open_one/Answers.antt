@@ -13,7 +13,7 @@ pub returns-then-whole-clause-opens : goal.returns-then-whole-clause-opens
 returns-then-whole-clause-opens c =
     let s = c.args.self.now in
     let room : (zone c.args.network.now c.args.t ≡ zone c.args.network.now c.args.m) ⊎ (target s c.args.b ≡ c.args.t) =
-        elim c.then-whole.branch [ then-whole-via-then-whole w ↦ inr (c.requires.aim w.if-whole.true) | then-whole-via-else-whole+then-zone w ↦ inl (omega arith) ] in
+    elim c.then-whole.branch [ then-whole-via-then-whole w ↦ inr (c.requires.aim w.if-whole.true) | then-whole-via-else-whole+then-zone w ↦ inl (omega arith) ] in
     let can : CanMove c.args.network.now (cells_of c.args.flags.now) s c.args.m c.args.b c.args.t = record {
       item = c.requires.item;
       member = c.requires.target;
@@ -23,9 +23,9 @@ returns-then-whole-clause-opens c =
       room = room;
     } in
     subst (λ new. Opens c.args.network.now (cells_of c.args.flags.now) s new) (sym c.open.ensures)
-        (opens c.args.network.now (cells_of c.args.flags.now) s c.requires.net c.requires.search c.args.m c.args.b c.args.t c.requires.within (omega arith) (inr can))
+    (opens c.args.network.now (cells_of c.args.flags.now) s c.requires.net c.requires.search c.args.m c.args.b c.args.t c.requires.within (omega arith) (inr can))
 
 pub returns-then-whole-clause-taken : goal.returns-then-whole-clause-taken
 returns-then-whole-clause-taken c = λ placed why.
     subst (λ new. rank new c.args.m < 64) (sym c.open.ensures)
-        (opened c.args.network.now (cells_of c.args.flags.now) c.args.self.now c.requires.net c.requires.search c.args.m c.args.b c.args.t c.requires.within (omega arith))
+    (opened c.args.network.now (cells_of c.args.flags.now) c.args.self.now c.requires.net c.requires.search c.args.m c.args.b c.args.t c.requires.within (omega arith))

@@ -11,9 +11,9 @@ open-requires-clause-found c =
 pub returns-then-load-limit-clause-opens : goal.returns-then-load-limit-clause-opens
 returns-then-load-limit-clause-opens c =
     subst (λ new. Opens c.args.network.now (cells_of c.args.flags.now) c.args.self.now new) (sym c.open.ensures)
-        (opens c.args.network.now (cells_of c.args.flags.now) c.args.self.now c.requires.net c.requires.search c.args.m 0 0 c.requires.within (omega arith) (inl (omega arith)))
+    (opens c.args.network.now (cells_of c.args.flags.now) c.args.self.now c.requires.net c.requires.search c.args.m 0 0 c.requires.within (omega arith) (inl (omega arith)))
 
 pub returns-then-load-limit-clause-roomy : goal.returns-then-load-limit-clause-roomy
 returns-then-load-limit-clause-roomy c = λ less.
     subst (λ new. rank new c.args.m < 64) (sym c.open.ensures)
-        (opened c.args.network.now (cells_of c.args.flags.now) c.args.self.now c.requires.net c.requires.search c.args.m 0 0 c.requires.within (omega arith))
+    (opened c.args.network.now (cells_of c.args.flags.now) c.args.self.now c.requires.net c.requires.search c.args.m 0 0 c.requires.within (omega arith))
