@@ -1,0 +1,10 @@
+pub mod SumLemmas
+pub mod Duality
+pub mod SearchLemmas
+pub mod Cuts
+pub mod Counts
+pub mod Walk
+pub mod NameLemmas
+pub mod TableLemmas
+pub mod PickLemmas
+pub mod Certificate

@@ -1,0 +1,6 @@
+use Rattle.std.proofs.Common.{◌≡◌}
+use Rattle.gz_alloc.specs.Names.{fill}
+use Rattle.gz_alloc.proofs.table.fill.Given as goal
+
+abbrev pub invariant-loop-i : goal.invariant-loop-i
+invariant-loop-i l = l.flags ≡ fill l.network l.i l.fn.flags

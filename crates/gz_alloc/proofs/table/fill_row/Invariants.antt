@@ -1,0 +1,6 @@
+use Rattle.std.proofs.Common.{◌≡◌}
+use Rattle.gz_alloc.specs.Names.{fill_row}
+use Rattle.gz_alloc.proofs.table.fill_row.Given as goal
+
+abbrev pub invariant-loop-m : goal.invariant-loop-m
+invariant-loop-m l = l.flags ≡ fill_row l.network l.i l.m l.fn.flags

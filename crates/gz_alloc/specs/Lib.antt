@@ -1,0 +1,4 @@
+pub mod Sums
+pub mod Flow
+pub mod Search
+pub mod Names

@@ -1,0 +1,15 @@
+//! Placements: which members hold which items.
+#![tactic(auto)]
+
+mod choice;
+mod feasible;
+mod laws;
+mod network;
+mod problem;
+mod search;
+mod solve;
+mod table;
+
+pub use choice::place;
+pub use laws::{no_placement_passes_a_cut, no_table_passes_a_cut};
+pub use problem::{Cut, Item, Member, Placement, Problem};
