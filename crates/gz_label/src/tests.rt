@@ -141,7 +141,10 @@ fn limits(rt: HostRuntime) -> Result<(), Fail> {
         text.append(item.as_bytes())?;
     }
     // without the comma that is last, and without the last item and its comma
-    for (len, fits) in [(text.len() - 1, false), (text.len() - 7, true)] {
+    for (len, fits) in [
+        (text.len().saturating_sub(1), false),
+        (text.len().saturating_sub(7), true),
+    ] {
         text.truncate(len);
         assert_eq!(rt; LabelSet::read(alloc, text.as_slice()).is_ok(), fits);
         assert_eq!(rt; Selector::read(alloc, text.as_slice()).is_ok(), fits);
