@@ -1,13 +1,13 @@
 -- What a placement and its cut are together.
-use Rattle.std.proofs.Common.{◌≡◌, ℕ, ◌+◌, ◌*◌, ◌<◌, ◌≤◌, Bool, true, false, List, length, replicate, refl, ap, ◌∙◌, sym, subst, arith}
+use Rattle.std.proofs.Common.{◌≡◌, ℕ, ◌*◌, ◌≤◌, Bool, true, false, List, replicate, ap, ◌∙◌, sym, subst, arith}
 use Rattle.std.specs.List.{list_all}
-use Rattle.gz_alloc.specs.Flow.{Net, IsNet, Cells, Keeps, items, members, total, capacity, cells_of}
+use Rattle.gz_alloc.specs.Flow.{Cells, Keeps, items, total, capacity, cells_of}
 use Rattle.gz_alloc.specs.Search.{Marks, IsWhole, is_chosen, is_zone_chosen}
-use Rattle.gz_alloc.specs.Names.{Asked, net_of, is_known, is_problem, paired, IsFeasible, IsFeasibleOf, IsChoice, size, greedy, greedy_pairs, pairs_of, mark_pairs, cut_members, cut_zones, cuts_member, cuts_zone, cut_capacity}
+use Rattle.gz_alloc.specs.Names.{Asked, net_of, is_known, is_problem, paired, IsFeasible, IsFeasibleOf, size, greedy, greedy_pairs, mark_pairs, cut_members, cut_zones, cuts_member, cuts_zone, cut_capacity}
 use Rattle.gz_alloc.proofs.Duality.{weak_duality}
 use Rattle.gz_alloc.proofs.Cuts.{cut_counts}
 use Rattle.gz_alloc.proofs.NameLemmas.{net_ok}
-use Rattle.gz_alloc.proofs.TableLemmas.{marks_agree, agree_keeps, agree_total, agree_back, IsGood, good_greedy}
+use Rattle.gz_alloc.proofs.TableLemmas.{marks_agree, agree_keeps, agree_total, agree_back, good_greedy}
 use Rattle.gz_alloc.proofs.PickLemmas.{cut_same, pairs_feasible, size_of_pairs}
 
 -- no feasible placement passes a cut

@@ -1,6 +1,6 @@
 -- The counts of a table in which one pair changes.
-use Rattle.std.proofs.Common.{◌≡◌, ℕ, ◌+◌, ◌*◌, ◌<◌, ◌≤◌, ◌≢◌, Bool, true, false, ◌&&◌, ◌==◌, List, length, refl, ap, ◌∙◌, sym, subst, arith, get_or-set_same, get_or-set_other}
-use Rattle.gz_alloc.specs.Sums.{when, sum_to, count_to}
+use Rattle.std.proofs.Common.{◌≡◌, ℕ, ◌+◌, ◌*◌, ◌<◌, ◌≤◌, ◌≢◌, Bool, false, ◌&&◌, ◌==◌, List, length, ap, arith, get_or-set_same, get_or-set_other}
+use Rattle.gz_alloc.specs.Sums.{when}
 use Rattle.gz_alloc.specs.Flow.{Net, IsNet, IsTable, Cells, items, members, zone, row, load, in_zone, total, Differs, cells_of, set_cell}
 use Rattle.gz_alloc.proofs.SumLemmas.{sum_to_eq, sum_to_but}
 

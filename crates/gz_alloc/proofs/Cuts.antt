@@ -1,12 +1,12 @@
 -- When nothing more can be found, the marks are a cut whose capacity is the number of pairs.
-use Rattle.std.proofs.Common.{◌≡◌, ℕ, ◌+◌, ◌<◌, ◌≤◌, ◌≢◌, ◌⊎◌, Bool, true, false, not, ◌&&◌, ◌==◌, min, refl, ap, ◌∙◌, sym, subst, arith, nat_lt, inl, inr, ⊎_elim}
+use Rattle.std.proofs.Common.{◌≡◌, ℕ, ◌+◌, ◌<◌, ◌≤◌, ◌≢◌, ◌⊎◌, Bool, true, false, not, ◌&&◌, ◌==◌, min, refl, ◌∙◌, sym, subst, arith, nat_lt, inl, inr, ⊎_elim}
 use Rattle.std.proofs.lemmas.Bool.{eqb-true, eq-eqb, ltb-true, ltb-false, lt-ltb, le-ltb, cases_Bool, and_parts, cases_lt, cases_eq}
 use Prim.Native.Nat.{zero, suc}
 use Rattle.gz_alloc.specs.Sums.{when, sum_to, count_to}
-use Rattle.gz_alloc.specs.Flow.{Net, IsNet, Cells, Keeps, items, members, replicas, limit, zone, row, load, in_zone, zone_bound, total, free, is_zone, is_uncut, zones_charge, capacity}
+use Rattle.gz_alloc.specs.Flow.{Net, IsNet, Cells, items, members, replicas, limit, zone, row, load, in_zone, zone_bound, total, free, is_zone, is_uncut, zones_charge, capacity}
 use Rattle.gz_alloc.specs.Search.{Marks, rank, target, is_open, IsWhole, IsPassed, is_chosen, is_zone_chosen}
-use Rattle.gz_alloc.proofs.SumLemmas.{sum_to_le, sum_to_eq, sum_to_add, sum_to_none, sum_to_zero, sum_to_swap, sum_to_part, sum_to_one}
-use Rattle.gz_alloc.proofs.Duality.{by_zones, when_true, when_false, when_most}
+use Rattle.gz_alloc.proofs.SumLemmas.{sum_to_le, sum_to_eq, sum_to_add, sum_to_zero, sum_to_swap, sum_to_part}
+use Rattle.gz_alloc.proofs.Duality.{by_zones, when_false, when_most}
 
 -- all fail the test, or one passes
 pub none_or_one : (n : ℕ) (p : ℕ → Bool) → ((m : ℕ) → m < n → p m ≡ false) ⊎ ((m : ℕ) × (m < n) × (p m ≡ true))

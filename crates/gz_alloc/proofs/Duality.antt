@@ -1,9 +1,9 @@
 -- No table that keeps the bounds has more pairs than the capacity of a cut.
-use Rattle.std.proofs.Common.{◌≡◌, ℕ, ◌+◌, ◌<◌, ◌≤◌, ◌≢◌, Bool, true, false, not, ◌&&◌, ◌==◌, min, refl, ap, ◌∙◌, sym, subst, arith, eqb, nat_lt, inl, inr, ⊎_elim}
-use Rattle.std.proofs.lemmas.Bool.{eqb-true, eqb-false, eq-eqb, ne_eqb, cases_Bool, ltb-false, false≢true, and_from, and_left, and_right}
+use Rattle.std.proofs.Common.{◌≡◌, ℕ, ◌+◌, ◌<◌, ◌≤◌, ◌≢◌, Bool, true, false, not, ◌&&◌, ◌==◌, min, refl, ap, ◌∙◌, sym, subst, arith}
+use Rattle.std.proofs.lemmas.Bool.{eqb-true, eq-eqb, ne_eqb, ltb-false, and_from, and_left, and_right}
 use Rattle.gz_alloc.specs.Sums.{when, sum_to, count_to}
-use Rattle.gz_alloc.specs.Flow.{Net, IsNet, Cells, Keeps, items, members, replicas, limit, zone, row, load, in_zone, zone_bound, total, free, is_zone, is_uncut, zones_charge, capacity}
-use Rattle.gz_alloc.proofs.SumLemmas.{sum_to_le, sum_to_eq, sum_to_add, sum_to_none, sum_to_zero, sum_to_swap, sum_to_part, sum_to_one}
+use Rattle.gz_alloc.specs.Flow.{Net, IsNet, Cells, Keeps, items, members, replicas, limit, zone, row, in_zone, zone_bound, total, free, is_zone, is_uncut, zones_charge, capacity}
+use Rattle.gz_alloc.proofs.SumLemmas.{sum_to_le, sum_to_eq, sum_to_add, sum_to_none, sum_to_zero, sum_to_swap, sum_to_one}
 
 -- what passes a stronger test is less
 pub when_le : (a b : Bool) (v : ℕ) → (a ≡ true → b ≡ true) → when a v ≤ when b v

@@ -8,3 +8,4 @@ pub mod NameLemmas
 pub mod TableLemmas
 pub mod PickLemmas
 pub mod Certificate
+pub mod PlainLemmas

@@ -1,17 +1,15 @@
 -- Names in order, and their places.
-use Rattle.std.proofs.Common.{◌≡◌, ℕ, ◌+◌, ◌<◌, ◌≤◌, ◌≢◌, ◌-◌, ◌⊎◌, Bool, true, false, ◌&&◌, ◌||◌, ◌==◌, List, [], ◌∷◌, ◌++◌, length, map, get_or, nat_lt, nat_le, refl, ap, ◌∙◌, sym, subst, arith, inl, inr, ⊎_elim, Ordering, cond, add-one}
+use Rattle.std.proofs.Common.{◌≡◌, ℕ, ◌+◌, ◌<◌, ◌≤◌, ◌≢◌, ◌-◌, ◌⊎◌, Bool, true, false, ◌&&◌, ◌==◌, List, [], ◌∷◌, length, map, get_or, nat_lt, nat_le, refl, ap, ◌∙◌, sym, subst, arith, inl, inr, ⊎_elim, Ordering, cond, add-one}
 use Prim.Native.Nat.{zero, suc}
 use Rattle.std.specs.declared.cmp.Ordering.TheVariants.{Less, Equal, Greater}
-use Rattle.std.specs.Prelude.{if◌then◌else◌}
 use Rattle.std.specs.Ordering.{nat_cmp, is_lt}
-use Rattle.std.specs.List.{list_any}
-use Rattle.std.specs.Cmp.Lexicographic.{pointwise, slice_cmp, bytes_decides}
+use Rattle.std.specs.Cmp.Lexicographic.{slice_cmp, bytes_decides}
 use Rattle.std.proofs.lemmas.Cmp.{nat_list_cmp_total, tied_itself, nat_list_eq_equiv}
-use Rattle.std.proofs.lemmas.List.{get_or-map, length-map}
-use Rattle.std.proofs.lemmas.Bool.{cases_eq, cases_lt, cases_Bool, cases_order, and_parts, and_left, and_right, ltb-true, lt-ltb, le-ltb, leb-true, eq-eqb, ne_eqb, eqb-true, or_cases, false≢true}
+use Rattle.std.proofs.lemmas.List.{length-map}
+use Rattle.std.proofs.lemmas.Bool.{cases_eq, cases_order, and_parts, and_left, and_right, ltb-true, lt-ltb, leb-true, eq-eqb, ne_eqb}
 use Rattle.gz_alloc.specs.Sums.{all_to}
 use Rattle.gz_alloc.specs.declared.problem.Member.{Member}
-use Rattle.gz_alloc.specs.Flow.{Net, IsNet, items, members, replicas, limit, zone}
+use Rattle.gz_alloc.specs.Flow.{IsNet, items, members, replicas, limit, zone}
 use Rattle.gz_alloc.specs.Names.{Asked, item_names, member_names, zone_names, net_of, is_problem, same, name_at, place_of, rises_at, rises}
 
 pub all_to_fails : (n : ℕ) (p : ℕ → Bool) (i : ℕ) → i < n → p i ≡ false → all_to n p ≡ false

@@ -1,18 +1,18 @@
 -- Lists that are made of what passes a test.
-use Rattle.std.proofs.Common.{◌≡◌, ℕ, ◌+◌, ◌<◌, ◌≤◌, ◌≢◌, ◌⊎◌, Bool, true, false, not, ◌&&◌, ◌||◌, ◌==◌, min, List, [], ◌∷◌, ◌++◌, length, nat_lt, refl, ap, ◌∙◌, sym, subst, arith, inl, inr, ⊎_elim, cond, add-one, append_assoc}
+use Rattle.std.proofs.Common.{◌≡◌, ℕ, ◌+◌, ◌<◌, ◌≢◌, Bool, true, false, not, ◌&&◌, ◌||◌, ◌==◌, min, List, [], ◌∷◌, ◌++◌, length, nat_lt, refl, ap, ◌∙◌, sym, subst, arith, ⊎_elim, add-one, append_assoc}
 use Prim.Native.Nat.{zero, suc}
 use Rattle.std.specs.Prelude.{if◌then◌else◌}
 use Rattle.std.specs.List.{list_any, list_all}
 use Rattle.std.proofs.lemmas.List.{length-map}
 use Rattle.std.proofs.lemmas.List.Folds.{list_any-append, list_all-append}
-use Rattle.std.proofs.lemmas.Bool.{cases_eq, cases_Bool, and_parts, or_cases, or_left, or_right, eqb-true, eq-eqb, lt-ltb, and_from}
+use Rattle.std.proofs.lemmas.Bool.{cases_eq, and_parts, or_cases, or_left, or_right, eqb-true, eq-eqb, lt-ltb, and_from}
 use Rattle.gz_alloc.specs.Sums.{when, sum_to}
 use Rattle.gz_alloc.specs.Flow.{Net, IsNet, Cells, items, members, replicas, limit, zone, zone_bound, free, is_zone, is_uncut, zones_charge, capacity, Keeps, total}
 use Rattle.gz_alloc.specs.Search.{Marks, is_chosen, is_zone_chosen}
-use Rattle.gz_alloc.specs.Names.{Asked, net_of, item_names, member_names, zone_names, is_known, is_problem, place_of, name_at, same, has, paired, picks, gather, pairs_of, cuts_member, cuts_zone, cut_members, cut_zones, cut_capacity, Agree, IsFeasible, IsFeasibleOf, size}
+use Rattle.gz_alloc.specs.Names.{Asked, net_of, item_names, member_names, zone_names, is_known, is_problem, place_of, name_at, same, paired, picks, gather, pairs_of, cuts_member, cuts_zone, cut_members, cut_zones, cut_capacity, Agree, IsFeasibleOf, size}
 use Rattle.gz_alloc.proofs.SumLemmas.{sum_to_eq}
 use Rattle.gz_alloc.proofs.TableLemmas.{agree_keeps, agree_total}
-use Rattle.gz_alloc.proofs.NameLemmas.{IsAsked, asked_facts, net_ok, same_itself, same_equal, names_apart, place_at, zone_map}
+use Rattle.gz_alloc.proofs.NameLemmas.{asked_facts, net_ok, same_itself, same_equal, names_apart, place_at, zone_map}
 
 pub record Picked {A : Type 0} (t : A → Bool) (n : ℕ) (p : ℕ → Bool) (f : ℕ → A) : Type 0 where
   pub at : ℕ

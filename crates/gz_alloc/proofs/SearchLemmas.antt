@@ -1,10 +1,10 @@
 -- What a step of the search keeps.
-use Rattle.std.proofs.Common.{◌≡◌, ℕ, ◌+◌, ◌<◌, ◌≤◌, ◌≢◌, ◌⊎◌, Bool, true, false, List, length, get_or, set, refl, ap, ◌∙◌, sym, subst, arith, nat_lt, inl, inr, ⊎_elim, get_or-set_same, get_or-set_other, length-set}
+use Rattle.std.proofs.Common.{◌≡◌, ℕ, ◌+◌, ◌<◌, ◌≤◌, ◌≢◌, ◌⊎◌, true, length, get_or, refl, ap, ◌∙◌, sym, subst, arith, nat_lt, inl, inr, ⊎_elim, get_or-set_same, get_or-set_other, length-set}
 use Rattle.std.proofs.lemmas.List.{get_or-replicate, length-replicate}
-use Rattle.std.proofs.lemmas.Bool.{cases_eq, cases_lt, lt-ltb, le-ltb, false≢true}
-use Rattle.gz_alloc.specs.Sums.{when, sum_to, count_to}
-use Rattle.gz_alloc.specs.Flow.{Net, IsNet, Cells, items, members, replicas, limit, zone, row, load, in_zone, zone_bound}
-use Rattle.gz_alloc.specs.Search.{Marks, target, rank, mover, to, is_open, CanMove, IsMove, IsReady, IsTarget, IsSearch, Grows, IsTaken, EachTaken, IsTakenIn, IsPassed, IsWanted, open_at, aim_at, IsWhole, Opens, Advances, new_marks, IsPassedAt, IsStart}
+use Rattle.std.proofs.lemmas.Bool.{cases_eq, cases_lt, lt-ltb, le-ltb}
+use Rattle.gz_alloc.specs.Sums.{when, count_to}
+use Rattle.gz_alloc.specs.Flow.{Net, IsNet, Cells, items, members, limit, zone, load}
+use Rattle.gz_alloc.specs.Search.{Marks, target, rank, mover, to, is_open, CanMove, IsMove, IsReady, IsTarget, IsSearch, Grows, IsTaken, EachTaken, IsPassed, open_at, aim_at, IsWhole, Opens, Advances, new_marks, IsPassedAt, IsStart}
 use Rattle.gz_alloc.proofs.SumLemmas.{sum_to_but, sum_to_zero, count_to_le, count_to_room}
 
 pub grows_refl : (s : Marks) → Grows s s

@@ -1,16 +1,14 @@
 -- Tables that grow pair by pair.
-use Rattle.std.proofs.Common.{◌≡◌, ℕ, ◌+◌, ◌*◌, ◌<◌, ◌≤◌, ◌≢◌, ◌⊎◌, Bool, true, false, not, ◌&&◌, ◌||◌, ◌==◌, List, [], ◌∷◌, ◌++◌, length, replicate, get_or, nat_lt, refl, ap, ◌∙◌, sym, subst, arith, inl, inr, ⊎_elim, cond, length-set, get_or-set_same, get_or-set_other}
+use Rattle.std.proofs.Common.{◌≡◌, ℕ, ◌+◌, ◌*◌, ◌<◌, ◌≤◌, ◌≢◌, ◌⊎◌, Bool, true, false, not, ◌&&◌, ◌||◌, ◌==◌, List, [], ◌∷◌, length, replicate, get_or, nat_lt, refl, ap, ◌∙◌, sym, subst, arith, inl, inr, ⊎_elim, cond, length-set, get_or-set_same, get_or-set_other}
 use Prim.Native.Nat.{zero, suc}
-use Rattle.std.specs.Prelude.{if◌then◌else◌}
-use Rattle.std.specs.List.{list_any}
-use Rattle.std.proofs.lemmas.List.{get_or-replicate, length-replicate, length-map}
-use Rattle.std.proofs.lemmas.Bool.{cases_eq, cases_lt, cases_Bool, and_parts, ltb-true, lt-ltb, le-ltb, eqb-true, eq-eqb, ne_eqb}
+use Rattle.std.proofs.lemmas.List.{length-replicate, length-map}
+use Rattle.std.proofs.lemmas.Bool.{cases_eq, cases_Bool, and_parts, ltb-true, lt-ltb, eqb-true, eq-eqb}
 use Rattle.gz_alloc.specs.Sums.{when}
 use Rattle.gz_alloc.specs.Flow.{Net, IsNet, IsTable, Cells, Keeps, items, members, replicas, limit, zone, row, load, in_zone, zone_bound, total, Differs, cells_of, set_cell}
-use Rattle.gz_alloc.specs.Names.{Asked, net_of, item_names, member_names, is_known, place_of, name_at, same, has, paired, is_problem, fits, add_where_fits, keep_pair, keep_pairs, fill_row, fill, greedy, mark_pair, mark_pairs, Agree}
+use Rattle.gz_alloc.specs.Names.{Asked, net_of, item_names, member_names, is_known, place_of, name_at, same, paired, is_problem, fits, add_where_fits, keep_pair, keep_pairs, fill_row, fill, greedy, mark_pair, mark_pairs, Agree}
 use Rattle.gz_alloc.proofs.SumLemmas.{sum_to_zero, sum_to_eq}
 use Rattle.gz_alloc.proofs.Counts.{row_other, row_at, load_other, load_at, in_zone_other, in_zone_at, differs_set}
-use Rattle.gz_alloc.proofs.NameLemmas.{IsAsked, asked_facts, same_place}
+use Rattle.gz_alloc.proofs.NameLemmas.{asked_facts, same_place}
 
 pub record IsGood (net : Net) (flags : List Bool) : Type 0 where
   pub table : IsTable net flags

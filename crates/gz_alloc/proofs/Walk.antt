@@ -1,9 +1,9 @@
 -- One more pair, and the moves that make room for it.
-use Rattle.std.proofs.Common.{List, length, length-set, ◌*◌, ◌≡◌, ℕ, ◌+◌, ◌<◌, ◌≤◌, ◌≢◌, ◌⊎◌, Bool, true, false, ◌&&◌, ◌==◌, refl, ap, ◌∙◌, sym, subst, arith, inl, inr, ⊎_elim}
+use Rattle.std.proofs.Common.{List, length, length-set, ◌*◌, ◌≡◌, ℕ, ◌+◌, ◌<◌, ◌≤◌, ◌≢◌, ◌⊎◌, Bool, true, false, ◌==◌, ap, ◌∙◌, sym, subst, arith, inl, inr, ⊎_elim}
 use Rattle.std.proofs.lemmas.Bool.{cases_eq, cases_Bool, eqb-true}
 use Rattle.gz_alloc.specs.Sums.{when}
 use Rattle.gz_alloc.specs.Flow.{Net, IsNet, Cells, Keeps, items, members, replicas, limit, zone, row, load, in_zone, zone_bound, total, Differs, IsTable, cells_of, set_cell}
-use Rattle.gz_alloc.specs.Search.{Marks, target, rank, mover, to, CanMove, IsMove, IsReady, IsSearch, IsWanted, IsWalk}
+use Rattle.gz_alloc.specs.Search.{Marks, target, rank, mover, to, IsMove, IsReady, IsSearch, IsWanted, IsWalk}
 use Rattle.gz_alloc.proofs.Counts.{row_other, row_at, load_other, load_at, in_zone_other, in_zone_at, total_at, differs_set}
 use Rattle.gz_alloc.proofs.SumLemmas.{count_to_le, sum_to_most}
 

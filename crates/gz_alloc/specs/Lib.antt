@@ -2,3 +2,4 @@ pub mod Sums
 pub mod Flow
 pub mod Search
 pub mod Names
+pub mod Plain

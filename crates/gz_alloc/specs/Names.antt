@@ -1,5 +1,5 @@
 -- Problems and placements by names.
-use Rattle.std.specs.Prelude.{◌≡◌, ℕ, ◌+◌, ◌*◌, ◌<◌, ◌≤◌, ◌==◌, ◌&&◌, ◌++◌, Bool, true, false, nat_le, nat_lt, List, [], ◌∷◌, length, map, slice_index, slice_index_or, if◌then◌else◌, not, replicate, suc}
+use Rattle.std.specs.Prelude.{◌≡◌, ℕ, ◌+◌, ◌*◌, ◌<◌, ◌==◌, ◌&&◌, ◌++◌, Bool, true, false, nat_le, nat_lt, List, [], ◌∷◌, length, map, slice_index_or, if◌then◌else◌, not, replicate, suc}
 use Prim.Native.Nat.{zero}
 use Rattle.std.specs.List.{list_any, list_all}
 use Rattle.std.specs.Ordering.{nat_cmp, is_lt}

@@ -220,7 +220,7 @@ fn choose(
 }
 
 /// The problem by numbers.
-fn network_of(alloc: Global, problem: &Problem) -> Result<Network, NoMemory>
+pub(crate) fn network_of(alloc: Global, problem: &Problem) -> Result<Network, NoMemory>
     ensures numbers { IfOk result (λ network. network ≡ net_of problem.now) }
     ensures net { IfOk result (λ network. IsNet network) }
     ensures problem { IfOk result (λ _. is_problem problem.now ≡ true) }

@@ -5,6 +5,7 @@ mod choice;
 mod feasible;
 mod laws;
 mod network;
+mod plain;
 mod problem;
 mod search;
 mod solve;
@@ -12,4 +13,5 @@ mod table;
 
 pub use choice::place;
 pub use laws::{no_placement_passes_a_cut, no_table_passes_a_cut};
+pub use plain::greatest_of;
 pub use problem::{Cut, Item, Member, Placement, Problem};

@@ -1,6 +1,6 @@
-use Rattle.std.proofs.Common.{◌≡◌, sym, ap, subst, ◌∙◌, refl}
+use Rattle.std.proofs.Common.{◌≡◌, sym, ap, subst, ◌∙◌}
 use Rattle.gz_alloc.specs.Flow.{Keeps, total, cells_of}
-use Rattle.gz_alloc.specs.Names.{net_of, greedy, greedy_pairs, pairs_of, IsFeasibleOf}
+use Rattle.gz_alloc.specs.Names.{net_of, greedy, pairs_of, IsFeasibleOf}
 use Rattle.gz_alloc.proofs.Certificate.{greedy_of_size, greedy_not_size}
 use Rattle.gz_alloc.proofs.PickLemmas.{pairs_feasible}
 use Rattle.gz_alloc.proofs.choice.choose.Goals as goal

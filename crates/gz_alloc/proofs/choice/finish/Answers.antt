@@ -1,7 +1,7 @@
-use Rattle.std.proofs.Common.{◌≡◌, sym, ap, subst, ◌∙◌}
+use Rattle.std.proofs.Common.{sym, ap, subst, ◌∙◌}
 use Rattle.gz_alloc.specs.Flow.{Keeps, total, cells_of}
 use Rattle.gz_alloc.specs.Search.{IsWhole}
-use Rattle.gz_alloc.specs.Names.{net_of, size, cut_capacity, cut_members}
+use Rattle.gz_alloc.specs.Names.{cut_capacity, cut_members}
 use Rattle.gz_alloc.proofs.Certificate.{whole_cut}
 use Rattle.gz_alloc.proofs.choice.finish.Goals as goal
 

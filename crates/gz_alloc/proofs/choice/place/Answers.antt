@@ -1,4 +1,4 @@
-use Rattle.std.proofs.Common.{◌≡◌, sym, subst, ◌∙◌}
+use Rattle.std.proofs.Common.{sym, subst, ◌∙◌}
 use Rattle.gz_alloc.specs.Flow.{Keeps, IsTable, cells_of}
 use Rattle.gz_alloc.proofs.choice.place.Goals as goal
 

@@ -1,7 +1,7 @@
-use Rattle.std.proofs.Common.{◌≡◌, ◌++◌, ◌∷◌, [], ◌&&◌, Bool, List, ℕ, sym, ap, ◌∙◌}
+use Rattle.std.proofs.Common.{◌++◌, ◌∷◌, [], ◌&&◌, Bool, List, ℕ, sym, ap, ◌∙◌}
 use Rattle.gz_alloc.specs.Flow.{is_zone}
 use Rattle.gz_alloc.specs.Search.{is_zone_chosen}
-use Rattle.gz_alloc.specs.Names.{picks, name_at, item_names, zone_names}
+use Rattle.gz_alloc.specs.Names.{name_at, item_names, zone_names}
 use Rattle.gz_alloc.proofs.PickLemmas.{picks_pushed, picks_passed}
 use Rattle.gz_alloc.proofs.choice.push_zones.Goals as goal
 use Rattle.gz_alloc.proofs.choice.push_zones.Goals.{then-cut+in_ok-item+in_ok-zone+in_ok-push, else-cut}

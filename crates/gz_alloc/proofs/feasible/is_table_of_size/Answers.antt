@@ -1,7 +1,7 @@
-use Rattle.std.proofs.Common.{◌≡◌, ◌*◌, false, List, ℕ, replicate, sym, ap, subst, ◌∙◌}
+use Rattle.std.proofs.Common.{◌*◌, false, replicate, sym, ap, subst, ◌∙◌}
 use Rattle.std.proofs.lemmas.Bool.{eqb-true, eqb-false}
 use Rattle.gz_alloc.specs.Flow.{Keeps, total, items, cells_of}
-use Rattle.gz_alloc.specs.Names.{net_of, mark_pairs}
+use Rattle.gz_alloc.specs.Names.{mark_pairs}
 use Rattle.gz_alloc.proofs.Certificate.{table_yes, table_keeps, table_size}
 use Rattle.gz_alloc.proofs.feasible.is_table_of_size.Goals as goal
 

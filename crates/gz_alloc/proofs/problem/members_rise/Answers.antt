@@ -1,4 +1,4 @@
-use Rattle.std.proofs.Common.{◌≡◌, ◌<◌, false, map, length, sym, ◌∙◌, arith}
+use Rattle.std.proofs.Common.{◌<◌, map, length, sym, ◌∙◌, arith}
 use Rattle.std.proofs.lemmas.List.{length-map}
 use Rattle.gz_alloc.specs.Names.{rises_at}
 use Rattle.gz_alloc.proofs.NameLemmas.{all_to_fails}

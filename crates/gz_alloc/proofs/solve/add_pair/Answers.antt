@@ -1,4 +1,4 @@
-use Rattle.std.proofs.Common.{◌≡◌, ℕ, ◌+◌, ◌<◌, length, ◌∙◌, arith}
+use Rattle.std.proofs.Common.{◌<◌, ◌∙◌, arith}
 use Rattle.gz_alloc.specs.Flow.{IsTable, cells_of, limit, load}
 use Rattle.gz_alloc.proofs.Walk.{start_step, walk_step}
 use Rattle.gz_alloc.proofs.solve.add_pair.Goals as goal

@@ -1,4 +1,4 @@
-use Rattle.std.proofs.Common.{◌≡◌, ◌+◌, length}
+use Rattle.std.proofs.Common.{◌≡◌, ◌+◌}
 use Rattle.gz_alloc.specs.Flow.{cells_of, total}
 use Rattle.gz_alloc.specs.Search.{IsWalk, rank}
 use Rattle.gz_alloc.proofs.solve.add_pair.Given as goal

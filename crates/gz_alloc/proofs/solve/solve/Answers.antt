@@ -1,4 +1,4 @@
-use Rattle.std.proofs.Common.{ℕ, ◌*◌, ◌≤◌, arith}
+use Rattle.std.proofs.Common.{◌*◌, ◌≤◌, arith}
 use Rattle.gz_alloc.specs.Flow.{items, total, cells_of}
 use Rattle.gz_alloc.proofs.Walk.{total_most}
 use Rattle.gz_alloc.proofs.solve.solve.Goals as goal

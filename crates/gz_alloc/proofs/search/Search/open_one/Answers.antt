@@ -1,4 +1,4 @@
-use Rattle.std.proofs.Common.{◌≡◌, ℕ, ◌<◌, ◌≤◌, ◌⊎◌, true, false, sym, ◌∙◌, subst, inl, inr, arith}
+use Rattle.std.proofs.Common.{◌≡◌, ◌<◌, ◌⊎◌, sym, ◌∙◌, subst, inl, inr, arith}
 use Rattle.gz_alloc.specs.Flow.{cells_of, zone}
 use Rattle.gz_alloc.specs.Search.{rank, target, CanMove, Opens}
 use Rattle.gz_alloc.proofs.SearchLemmas.{rank_left, opens, opened}

@@ -1,5 +1,5 @@
-use Rattle.std.proofs.Common.{◌≡◌, ℕ, ◌<◌, ◌≤◌, sym, subst, inl, arith}
-use Rattle.gz_alloc.specs.Flow.{cells_of, load, limit}
+use Rattle.std.proofs.Common.{◌<◌, sym, subst, inl, arith}
+use Rattle.gz_alloc.specs.Flow.{cells_of}
 use Rattle.gz_alloc.specs.Search.{rank, Opens}
 use Rattle.gz_alloc.proofs.SearchLemmas.{rank_left, opens, opened}
 use Rattle.gz_alloc.proofs.search.Search.open_roomy.Goals as goal

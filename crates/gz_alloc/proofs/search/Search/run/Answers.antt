@@ -1,5 +1,5 @@
-use Rattle.std.proofs.Common.{ℕ, ◌<◌, arith}
-use Rattle.gz_alloc.specs.Flow.{cells_of, members}
+use Rattle.std.proofs.Common.{◌<◌, arith}
+use Rattle.gz_alloc.specs.Flow.{cells_of}
 use Rattle.gz_alloc.proofs.SearchLemmas.{start_grows, passed_ranks_more, whole_at_end}
 use Rattle.gz_alloc.proofs.search.Search.run.Goals as goal
 

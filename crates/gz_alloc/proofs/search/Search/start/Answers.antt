@@ -1,4 +1,4 @@
-use Rattle.std.proofs.Common.{◌≡◌, ℕ, ◌<◌, ◌≤◌, sym, subst, arith}
+use Rattle.std.proofs.Common.{◌≤◌, sym, subst, arith}
 use Rattle.gz_alloc.specs.Flow.{cells_of}
 use Rattle.gz_alloc.specs.Search.{IsSearch, target}
 use Rattle.gz_alloc.proofs.SearchLemmas.{begins, begins_untargeted}

@@ -1,5 +1,5 @@
 use Rattle.std.proofs.Common.{ℕ, ◌<◌, ◌≤◌}
-use Rattle.gz_alloc.specs.Flow.{cells_of, members, items, load, limit}
+use Rattle.gz_alloc.specs.Flow.{cells_of, items, load, limit}
 use Rattle.gz_alloc.specs.Search.{IsSearch, rank, target}
 use Rattle.gz_alloc.proofs.search.Search.start.Given as goal
 

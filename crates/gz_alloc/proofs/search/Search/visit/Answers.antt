@@ -1,6 +1,6 @@
-use Rattle.std.proofs.Common.{◌≡◌, ℕ, ◌<◌, ◌≤◌, ◌⊎◌, true, false, sym, ◌∙◌, ap, subst, inl, inr, arith}
+use Rattle.std.proofs.Common.{◌≡◌, sym, ◌∙◌, ap, subst, arith}
 use Rattle.gz_alloc.specs.Flow.{cells_of, zone, in_zone, zone_bound, replicas}
-use Rattle.gz_alloc.specs.Search.{rank, target, IsSearch, IsTarget}
+use Rattle.gz_alloc.specs.Search.{IsSearch, IsTarget}
 use Rattle.gz_alloc.proofs.SearchLemmas.{aim_keeps}
 use Rattle.gz_alloc.proofs.search.Search.visit.Goals as goal
 

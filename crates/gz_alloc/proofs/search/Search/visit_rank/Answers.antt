@@ -1,5 +1,5 @@
 use Rattle.std.proofs.Common.{◌≡◌, ℕ, ◌+◌, ◌<◌, ◌≤◌, sym, ◌∙◌, subst, arith}
-use Rattle.gz_alloc.specs.Flow.{cells_of, items, members}
+use Rattle.gz_alloc.specs.Flow.{cells_of, members}
 use Rattle.gz_alloc.specs.Search.{Marks, Advances, IsPassedAt, rank}
 use Rattle.gz_alloc.proofs.SearchLemmas.{advances_trans, later_more, passed_at_more, passed_at_other}
 use Rattle.gz_alloc.proofs.search.Search.visit_rank.Goals as goal
