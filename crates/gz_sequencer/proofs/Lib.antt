@@ -1,5 +1,7 @@
 pub mod PartLookups
 pub mod PartHistories
+pub mod Produced
+pub mod Transactions
 pub mod Feeding
 pub mod InOrder
 pub mod FedTexts

@@ -160,7 +160,7 @@ keeps_all_after h until parts p from k = λ q.
     (keeps_case (bytes_eq p.message.producer q) (of_producer q h) p (part_of q parts) (k q))
 
 -- the messages that one line releases
-released_of_line : (end : ℕ) (ms : List Message) → released_in (map (λ m. record { message = m; end = end }) ms) ≡ ms
+pub released_of_line : (end : ℕ) (ms : List Message) → released_in (map (λ m. record { message = m; end = end }) ms) ≡ ms
 released_of_line end [] = refl
 released_of_line end (m ∷ ms) = ap (λ (rest : List Message). m ∷ rest) (released_of_line end ms)
 

@@ -2,3 +2,4 @@ pub mod Committed
 pub mod Parts
 pub mod Machine
 pub mod Calls
+pub mod Transactions

@@ -1,10 +1,12 @@
 //! Laws of the release rule and of sequencers.
-ghost use Rattle.std.specs.Prelude.{◌≡◌, ◌≤◌, ◌++◌, ◌-◌, ℕ, List, [], drop};
+ghost use Rattle.std.specs.Prelude.{◌≡◌, ◌≤◌, ◌++◌, ◌-◌, ℕ, List, [], drop, None};
 ghost use Rattle.gz_model.specs.Prefix.{IsPrefix};
-ghost use Rattle.gz_frame.specs.Text.{Placed};
-ghost use Rattle.gz_sequencer.specs.Committed.{released_in, committed_after, committed};
+ghost use Rattle.gz_frame.specs.Text.{Placed, messages_of};
+ghost use Rattle.gz_frame.specs.Release.{of_producer};
+ghost use Rattle.gz_sequencer.specs.Committed.{messages_alone, released_in, committed_after, committed};
 ghost use Rattle.gz_sequencer.specs.Parts.{releases_of_all};
 ghost use Rattle.gz_sequencer.specs.Machine.{Point, started, fed, at, point_of, resumed};
+ghost use Rattle.gz_sequencer.specs.Transactions.{Line, Transaction, AreTransactions, text_of, text_of_lines, lines_in};
 ghost use Rattle.gz_sequencer.specs.Calls.{Call, after_calls, given, text_in};
 
 /// Message by message, what is kept of each producer releases what the release rule says.
@@ -16,6 +18,17 @@ pub fn released_is_committed()
 #[tactic(auto, using(crate::proofs::Resuming::front_commits_front))]
 pub fn front_commits_front()
     ensures { (offset : ℕ) (front back : List ℕ) → IsPrefix (committed offset front) (committed offset (front ++ back)) }
+{}
+
+/// What one producer writes as transactions, whatever other producers' messages and other lines stand between: of this
+/// producer exactly the transactions' lines are released, each once and in order. Lines of a transaction that stand
+/// again inside it and lines that stand again behind its acknowledgement add nothing, nor do lines at the end that
+/// aren't acknowledged.
+#[tactic(auto, using(crate::proofs::Transactions::transactions_released))]
+pub fn transactions_are_released()
+    ensures { (offset : ℕ) (text producer : List ℕ) (ts : List Transaction) (waiting : List Line) → AreTransactions None ts waiting →
+        of_producer producer (messages_alone (messages_of offset text)) ≡ text_of ts ++ text_of_lines waiting →
+        of_producer producer (released_in (committed offset text)) ≡ lines_in ts }
 {}
 
 /// Whatever pieces a text is fed in, and whenever messages are taken: those that were given and those that are left

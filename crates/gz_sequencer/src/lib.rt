@@ -9,7 +9,7 @@ mod sequencer;
 
 pub use laws::{
     checkpoint_stays, front_commits_front, given_is_committed, released_is_committed,
-    resumed_checkpoints_agree, resumed_releases_the_rest,
+    resumed_checkpoints_agree, resumed_releases_the_rest, transactions_are_released,
 };
 pub use point::{ProducerMark, SourcePoint};
 pub use sequencer::Sequencer;

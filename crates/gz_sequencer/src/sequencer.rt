@@ -135,6 +135,7 @@ impl Sequencer {
 
     /// The checkpoint after the last whole line: with the bytes from its offsets on, `resume` goes on from it. Until
     /// the lines below the offset of the point from which the sequencer was made are fed again, it is that point.
+    /// Messages that were released and not yet taken aren't in it: take them before, or they are lost to what resumes.
     pub fn checkpoint(&self) -> Result<SourcePoint, NoMemory>
         ensures { IfOk result (λ point. point ≡ point_of self.now) }
     {
