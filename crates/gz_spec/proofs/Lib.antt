@@ -4,3 +4,9 @@ pub mod Apps
 pub mod Eachs
 pub mod Bits
 pub mod Reaching
+pub mod Datas
+pub mod Fronts
+pub mod LabelsBack
+pub mod Depths
+pub mod SpecsBack
+pub mod Readable

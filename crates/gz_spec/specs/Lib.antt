@@ -12,3 +12,6 @@ pub mod Members
 pub mod Links
 pub mod Cycles
 pub mod Specs
+pub mod Joins
+pub mod Printed
+pub mod Valid

@@ -7,11 +7,13 @@ ghost use Rattle.gz_spec.specs.Journals.{next_journal};
 ghost use Rattle.gz_spec.specs.Shards.{next_shard};
 ghost use Rattle.gz_spec.specs.Members.{next_member};
 ghost use Rattle.gz_spec.specs.Specs.{name_of_journal, id_of_shard, id_of_member, journals_in, shards_in, members_in, part_in, part_of, acyclic, whole, specs_of};
+ghost use Rattle.gz_spec.specs.Joins.{both_of, join_of};
 ghost use Rattle.gz_spec.specs.Cycles.{first_cycle, IsToldCycle};
 
 use crate::SpecError;
 use crate::cycles::first_cycle;
 use crate::form::{parse, read_items_or_none, refuse_unknown};
+use crate::joins::{joined_journals, joined_shards, refuse_changed, refuse_more};
 use crate::journal::{JournalSpec, read_next_journal};
 use crate::links::refuse_unlinked;
 use crate::lists::refuse_long;
@@ -48,6 +50,17 @@ impl Model for Journals {
     ghost view = { λ a. a.journals.items };
 }
 
+fn copy_journals(alloc: Global, journals: &[JournalSpec]) -> Result<Vec<JournalSpec>, NoMemory>
+    ensures { IfOk result (λ copied. copied.items ≡ journals.now) }
+{
+    let mut copied = Vec::new(alloc);
+    for journal in journals {
+        let one = journal.copy()?;
+        copied.push(one)?;
+    }
+    Ok(copied)
+}
+
 impl Journals {
     /// The same journals. It takes no memory.
     pub fn of(journals: Vec<JournalSpec>) -> Journals
@@ -69,6 +82,14 @@ impl Journals {
     {
         self.journals.as_slice()
     }
+
+    /// An equal value.
+    pub fn copy(&self) -> Result<Journals, NoMemory>
+        ensures { IfOk result (λ journals. journals ≡ self.now) }
+    {
+        let journals = copy_journals(*self.journals.allocator(), self.journals.as_slice())?;
+        Ok(Journals { journals })
+    }
 }
 
 /// Shards, which a contract sees as their list.
@@ -84,6 +105,17 @@ impl Model for Shards {
     ghost Value = { List ShardSpec };
 
     ghost view = { λ a. a.shards.items };
+}
+
+fn copy_shards(alloc: Global, shards: &[ShardSpec]) -> Result<Vec<ShardSpec>, NoMemory>
+    ensures { IfOk result (λ copied. copied.items ≡ shards.now) }
+{
+    let mut copied = Vec::new(alloc);
+    for shard in shards {
+        let one = shard.copy()?;
+        copied.push(one)?;
+    }
+    Ok(copied)
 }
 
 impl Shards {
@@ -107,6 +139,14 @@ impl Shards {
     {
         self.shards.as_slice()
     }
+
+    /// An equal value.
+    pub fn copy(&self) -> Result<Shards, NoMemory>
+        ensures { IfOk result (λ shards. shards ≡ self.now) }
+    {
+        let shards = copy_shards(*self.shards.allocator(), self.shards.as_slice())?;
+        Ok(Shards { shards })
+    }
 }
 
 /// Members, which a contract sees as their list.
@@ -122,6 +162,17 @@ impl Model for Members {
     ghost Value = { List MemberSpec };
 
     ghost view = { λ a. a.members.items };
+}
+
+fn copy_members(alloc: Global, members: &[MemberSpec]) -> Result<Vec<MemberSpec>, NoMemory>
+    ensures { IfOk result (λ copied. copied.items ≡ members.now) }
+{
+    let mut copied = Vec::new(alloc);
+    for member in members {
+        let one = member.copy()?;
+        copied.push(one)?;
+    }
+    Ok(copied)
 }
 
 impl Members {
@@ -144,6 +195,14 @@ impl Members {
         ensures { result.now ≡ self.now }
     {
         self.members.as_slice()
+    }
+
+    /// An equal value.
+    pub fn copy(&self) -> Result<Members, NoMemory>
+        ensures { IfOk result (λ members. members ≡ self.now) }
+    {
+        let members = copy_members(*self.members.allocator(), self.members.as_slice())?;
+        Ok(Members { members })
     }
 }
 
@@ -328,6 +387,54 @@ pub fn read_specs(alloc: Global, bytes: &[u8]) -> Result<Specs, SpecError>
 }
 
 impl Specs {
+    /// An equal value.
+    pub fn copy(&self) -> Result<Specs, NoMemory>
+        ensures { IfOk result (λ specs. specs ≡ self.now) }
+    {
+        Ok(Specs {
+            journals: self.journals.copy()?,
+            shards: self.shards.copy()?,
+            brokers: self.brokers.copy()?,
+            consumers: self.consumers.copy()?,
+        })
+    }
+
+    /// The journals and shards of both, whatever they are as a whole.
+    fn both(&self, alloc: Global, more: &Specs) -> Result<Specs, NoMemory>
+        ensures { IfOk result (λ specs. specs ≡ both_of self.now more.now) }
+    {
+        let journals = joined_journals(alloc, self.journals.as_slice(), more.journals.as_slice())?;
+        let shards = joined_shards(alloc, self.shards.as_slice(), more.shards.as_slice())?;
+        Ok(Specs {
+            journals: Journals::of(journals),
+            shards: Shards::of(shards),
+            brokers: self.brokers.copy()?,
+            consumers: self.consumers.copy()?,
+        })
+    }
+
+    /// These with the journals and shards of `more`: one of a name that is there replaces it in its place,
+    /// and the new ones follow in their order. The members stay. BadField with the path of the labels in
+    /// `more` where the values of a replaced journal's label `content-type` would change; else BadNumber
+    /// where there would be more than 1,024 journals or 256 shards; then NoJournal and Cycle, of all.
+    #[tactic(auto, unfolding(crate::specs::Joins::join_of))]
+    pub fn join(&self, more: &Specs) -> Result<Specs, SpecError>
+        ensures { Gives (λ specs. specs) result (join_of self.now more.now) }
+    {
+        let alloc = *self.journals.journals.allocator();
+        refuse_changed(alloc, self.journals.as_slice(), more.journals.as_slice())?;
+        let specs = self.both(alloc, more)?;
+        refuse_more(
+            alloc,
+            "journals",
+            specs.journals.as_slice().len(),
+            MAX_JOURNALS,
+        )?;
+        refuse_more(alloc, "shards", specs.shards.as_slice().len(), MAX_SHARDS)?;
+        refuse_broken(alloc, &specs)?;
+        Ok(specs)
+    }
+
     /// The place of the first shard whose outputs reach its own sources, if there is one: a path leads
     /// from it to itself, each shard of which writes to a journal that the next reads.
     pub fn first_cycle(&self, alloc: Global) -> Result<Option<usize>, NoMemory>

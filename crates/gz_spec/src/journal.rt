@@ -1,9 +1,10 @@
 //! A journal's specification as JSON.
-ghost use Rattle.std.specs.Prelude.{◌≡◌, ◌++◌, ◌∷◌, [], IfOk, codes};
+ghost use Rattle.std.specs.Prelude.{◌≡◌, ◌++◌, ◌∷◌, [], IfOk, IsTrue, codes};
 ghost use Rattle.serde_json.specs.View.{view};
 ghost use Rattle.serde_json.specs.Find.{get};
 ghost use Rattle.gz_spec.specs.Paths.{below};
 ghost use Rattle.gz_spec.specs.Outcomes.{Gives};
+ghost use Rattle.gz_spec.specs.Valid.{is_journal};
 ghost use Rattle.gz_spec.specs.Journals.{fragment_in, fragment_at, codec_if, journal_with, journal_at, journal_of, next_journal};
 
 use crate::SpecError;
@@ -12,7 +13,7 @@ use crate::labels::read_labels;
 use crate::lists::use_name;
 use crate::names::read_journal_name;
 use crate::paths::path_below;
-use gz_label::{Blob, LabelSet, Name};
+use gz_label::{Blob, LabelSet, Name, NoMemory};
 use indexmap::IndexSet;
 use serde_json::Value;
 use std::alloc::Global;
@@ -40,6 +41,20 @@ pub struct JournalSpec {
     pub labels: LabelSet,
     /// The bytes of a fragment, from 1 to 1,073,741,824.
     pub fragment_length: u64,
+}
+
+impl JournalSpec {
+    /// An equal value.
+    pub fn copy(&self) -> Result<JournalSpec, NoMemory>
+        ensures { IfOk result (λ journal. journal ≡ self.now) }
+    {
+        Ok(JournalSpec {
+            name: self.name.copy()?,
+            replication: self.replication,
+            labels: self.labels.copy()?,
+            fragment_length: self.fragment_length,
+        })
+    }
 }
 
 /// Refuses fragments that are to be compressed.
@@ -144,10 +159,12 @@ pub fn read_next_journal(
     Ok(journal)
 }
 
-/// The journal that the text is, by itself. Paths begin at the journal.
+/// The journal that the text is, by itself. Paths begin at the journal. What is read is printed and read back
+/// the same.
 #[tactic(auto, unfolding(crate::specs::Journals::journal_of))]
 pub fn read_journal(alloc: Global, bytes: &[u8]) -> Result<JournalSpec, SpecError>
-    ensures { Gives (λ j. j) result (journal_of bytes.now) }
+    ensures gives { Gives (λ j. j) result (journal_of bytes.now) }
+    ensures valid { IfOk result (λ j. IsTrue (is_journal j)) }
 {
     let value = parse(alloc, bytes)?;
     let journal = read_journal_at(alloc, &Blob::new(alloc), &value)?;

@@ -7,6 +7,7 @@ mod cycles;
 mod error;
 mod form;
 mod framing;
+mod joins;
 mod journal;
 mod labels;
 mod links;
@@ -14,15 +15,20 @@ mod lists;
 mod member;
 mod names;
 mod paths;
+mod print;
 mod shard;
 mod source;
 
 pub use app::App;
 pub use cluster::{Journals, Members, Shards, Specs, read_part, read_specs};
 pub use error::SpecError;
+pub use form::{Range, read_items, read_number, read_number_or, read_text, refuse_unknown};
 pub use framing::Framing;
 pub use journal::{JournalSpec, read_journal};
 pub use member::{MemberSpec, read_member};
+pub use names::{read_id, read_journal_name};
+pub use paths::{path_below, path_of_item};
+pub use print::{print_journal, print_shard, print_specs};
 pub use shard::{ShardSpec, read_shard};
 pub use source::{SourceSpec, Sources};
 

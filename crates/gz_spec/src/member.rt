@@ -9,7 +9,7 @@ use crate::form::{Range, parse, read_number, refuse_unknown};
 use crate::lists::use_name;
 use crate::names::{is_reserved, read_id};
 use crate::paths::path_below;
-use gz_label::{Blob, Name};
+use gz_label::{Blob, Name, NoMemory};
 use indexmap::IndexSet;
 use serde_json::Value;
 use std::alloc::Global;
@@ -27,6 +27,19 @@ pub struct MemberSpec {
     pub id: Name,
     pub zone: Name,
     pub limit: u64,
+}
+
+impl MemberSpec {
+    /// An equal value.
+    pub fn copy(&self) -> Result<MemberSpec, NoMemory>
+        ensures { IfOk result (λ member. member ≡ self.now) }
+    {
+        Ok(MemberSpec {
+            id: self.id.copy()?,
+            zone: self.zone.copy()?,
+            limit: self.limit,
+        })
+    }
 }
 
 /// The member of this id, by what follows the id.

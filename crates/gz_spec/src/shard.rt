@@ -13,7 +13,7 @@ use crate::lists::use_name;
 use crate::names::{read_hint_prefix, read_id, read_journal_name};
 use crate::paths::path_below;
 use crate::source::{Sources, read_sources};
-use gz_label::{Blob, LabelSet, Name};
+use gz_label::{Blob, LabelSet, Name, NoMemory};
 use indexmap::IndexSet;
 use serde_json::Value;
 use std::alloc::Global;
@@ -61,6 +61,22 @@ impl ShardSpec {
         ensures { result ≡ app_of (values_of (codes "app") self.now.labels) }
     {
         app_in(self.labels.as_slice())
+    }
+
+    /// An equal value.
+    pub fn copy(&self) -> Result<ShardSpec, NoMemory>
+        ensures { IfOk result (λ shard. shard ≡ self.now) }
+    {
+        Ok(ShardSpec {
+            id: self.id.copy()?,
+            sources: self.sources.copy()?,
+            recovery_log_prefix: self.recovery_log_prefix.copy()?,
+            hint_prefix: self.hint_prefix.copy()?,
+            hint_backups: self.hint_backups,
+            hot_standbys: self.hot_standbys,
+            disable: self.disable,
+            labels: self.labels.copy()?,
+        })
     }
 }
 

@@ -10,7 +10,7 @@ use crate::form::{Range, read_items, read_number_or, refuse_unknown};
 use crate::lists::{refuse_long, use_name};
 use crate::names::read_journal_name;
 use crate::paths::{path_below, path_of_item};
-use gz_label::{Blob, Name};
+use gz_label::{Blob, Name, NoMemory};
 use indexmap::IndexSet;
 use serde_json::Value;
 use std::alloc::Global;
@@ -32,6 +32,18 @@ pub struct SourceSpec {
     pub min_offset: u64,
 }
 
+impl SourceSpec {
+    /// An equal value.
+    pub fn copy(&self) -> Result<SourceSpec, NoMemory>
+        ensures { IfOk result (λ source. source ≡ self.now) }
+    {
+        Ok(SourceSpec {
+            journal: self.journal.copy()?,
+            min_offset: self.min_offset,
+        })
+    }
+}
+
 /// Sources, which a contract sees as their list.
 #[derive(Debug, Drop)]
 pub struct Sources {
@@ -45,6 +57,17 @@ impl Model for Sources {
     ghost Value = { List SourceSpec };
 
     ghost view = { λ a. a.sources.items };
+}
+
+fn copy_sources(alloc: Global, sources: &[SourceSpec]) -> Result<Vec<SourceSpec>, NoMemory>
+    ensures { IfOk result (λ copied. copied.items ≡ sources.now) }
+{
+    let mut copied = Vec::new(alloc);
+    for source in sources {
+        let one = source.copy()?;
+        copied.push(one)?;
+    }
+    Ok(copied)
 }
 
 impl Sources {
@@ -67,6 +90,14 @@ impl Sources {
         ensures { result.now ≡ self.now }
     {
         self.sources.as_slice()
+    }
+
+    /// An equal value.
+    pub fn copy(&self) -> Result<Sources, NoMemory>
+        ensures { IfOk result (λ sources. sources ≡ self.now) }
+    {
+        let sources = copy_sources(*self.sources.allocator(), self.sources.as_slice())?;
+        Ok(Sources { sources })
     }
 }
 

@@ -1,5 +1,8 @@
 //! Specifications that are refused, each for one thing, the limits, and what is read where nothing is said.
-use crate::{SpecError, read_journal, read_member, read_part, read_shard, read_specs};
+use crate::{
+    SpecError, print_journal, print_shard, print_specs, read_journal, read_member, read_part,
+    read_shard, read_specs,
+};
 use std::alloc::{AllocError, Global};
 use std::test::Fail;
 
@@ -311,5 +314,117 @@ fn shards_stand_among_journals_and_feed_no_cycle(rt: HostRuntime) -> Result<(), 
         let refused = is_told(alloc, two.as_str(), row)?;
         assert!(rt; refused, "{row}");
     }
+    Ok(())
+}
+
+/// Whether the two texts, with `'` for `"`, join, or are refused for this.
+fn joins(
+    alloc: Global,
+    first: &str,
+    more: &str,
+    kind: &str,
+    path: &str,
+) -> Result<bool, SpecError> {
+    let first = first.replace(alloc, "'", "\"")?;
+    let more = more.replace(alloc, "'", "\"")?;
+    let specs = read_part(alloc, first.as_bytes())?;
+    let more = read_part(alloc, more.as_bytes())?;
+    let refused = specs.join(&more).err();
+    Ok(is_error(&refused, kind, path))
+}
+
+#[test]
+fn a_replaced_journal_keeps_its_place_and_what_it_holds(rt: HostRuntime) -> Result<(), Fail> {
+    let alloc = rt.alloc();
+    let first = SPECS.replace(alloc, "'", "\"")?;
+    let more =
+        "{'journals':[{'name':'new'},{'name':'rec/s1','replication':3,'labels':{'content-type':['application/x-gazette-recoverylog'],'a':['b']}}],'brokers':[{'id':'b9','zone':'z','limit':1}]}".replace(
+            alloc, "'", "\"",
+        )?;
+    let specs = read_specs(alloc, first.as_bytes())?;
+    let both = specs.copy()?.join(&read_part(alloc, more.as_bytes())?)?;
+    let journals = both.journals.as_slice();
+    assert_eq!(rt; journals.len(), 4);
+    assert_eq!(rt; journals[0].name.as_slice(), b"out".as_slice());
+    assert_eq!(rt; journals[1].name.as_slice(), b"rec/s1".as_slice());
+    assert_eq!(rt; journals[1].replication, 3);
+    assert_eq!(rt; journals[3].name.as_slice(), b"new".as_slice());
+    assert_eq!(rt; both.shards.as_slice().len(), 1);
+    assert_eq!(rt; both.brokers.as_slice().len(), 1);
+    assert_eq!(rt; both.consumers.as_slice().len(), 1);
+    Ok(())
+}
+
+#[test]
+fn what_does_not_join_is_told_with_its_path(rt: HostRuntime) -> Result<(), Fail> {
+    let alloc = rt.alloc();
+    let rows = [
+        "{}|none ",
+        "{'journals':[{'name':'n'},{'name':'out'}]}|field journals[1].labels",
+        "{'journals':[{'name':'out','labels':{'content-type':['x','application/x-ndjson']}}]}|field journals[0].labels",
+        "{'journals':[{'name':'out','labels':{'content-type':['application/x-ndjson'],'x':['y']}}]}|none ",
+        "{'shards':[{'id':'s2','sources':[{'journal':'no'}],'recovery_log_prefix':'rec','labels':{'app':['latest']}}]}|journal shards[1].sources[0]",
+        "{'shards':[{'id':'s1','sources':[{'journal':'out'}],'recovery_log_prefix':'rec','labels':{'app':['count'],'output':['out']}}]}|cycle shards[0]",
+    ];
+    for row in rows {
+        let (more, expected) = row.split_once('|').ok_or("no row")?;
+        let (kind, path) = expected.split_once(' ').ok_or("no kind")?;
+        assert!(rt; joins(alloc, SPECS, more, kind, path)?, "{row}");
+    }
+    Ok(())
+}
+
+#[test]
+fn a_list_that_grows_too_long_is_refused(rt: HostRuntime) -> Result<(), Fail> {
+    let alloc = rt.alloc();
+    let full = many(alloc, "{'journals':[", "{'name':'j#'}", 1023, "]}")?;
+    let one = "{'journals':[{'name':'j0'},{'name':'a'}]}";
+    let two = "{'journals':[{'name':'b'},{'name':'a'}]}";
+    assert!(rt; joins(alloc, full.as_str(), one, "none", "")?);
+    assert!(rt; joins(alloc, full.as_str(), two, "number", "journals")?);
+    let shard =
+        "{'id':'s#','sources':[{'journal':'a'}],'recovery_log_prefix':'r','labels':{'app':['latest']}}";
+    let full = many(alloc, "{'shards':[", shard, 256, "]}")?;
+    let same = many(alloc, "{'shards':[", shard, 256, "]}")?;
+    let other =
+        "{'shards':[{'id':'t','sources':[{'journal':'a'}],'recovery_log_prefix':'r','labels':{'app':['latest']}}]}";
+    assert!(rt;
+        joins(
+            alloc,
+            full.as_str(),
+            same.as_str(),
+            "journal",
+            "shards[0].sources[0]"
+        )?
+    );
+    assert!(rt; joins(alloc, full.as_str(), other, "number", "shards")?);
+    Ok(())
+}
+
+#[test]
+fn what_is_printed_is_read_back(rt: HostRuntime) -> Result<(), Fail> {
+    let alloc = rt.alloc();
+    let text = SPECS.replace(alloc, "'", "\"")?;
+    let specs = read_specs(alloc, text.as_bytes())?;
+    let printed = print_specs(alloc, &specs)?;
+    let again = read_specs(alloc, printed.as_slice())?;
+    let same = print_specs(alloc, &again)?;
+    assert_eq!(rt; printed.as_slice(), same.as_slice());
+    let journal = read_journal(
+        alloc,
+        b"{\"name\":\"a\",\"labels\":{\"y\":[\"2\",\"1\"],\"x\":[\"a\\\"\"]}}",
+    )?;
+    assert_eq!(rt;
+        print_journal(alloc, &journal)?.as_slice(),
+        b"{\"fragment\":{\"compression_codec\":\"NONE\",\"length\":67108864},\"labels\":{\"x\":[\"a\\\"\"],\"y\":[\"1\",\"2\"]},\"name\":\"a\",\"replication\":1}".as_slice()
+    );
+    let shard = read_shard(
+        alloc,
+        b"{\"id\":\"s\",\"sources\":[{\"journal\":\"a\"}],\"recovery_log_prefix\":\"r\",\"labels\":{\"app\":[\"latest\"]}}",
+    )?;
+    assert_eq!(rt;
+        print_shard(alloc, &shard)?.as_slice(),
+        b"{\"disable\":false,\"hint_backups\":0,\"hint_prefix\":\"hint\",\"hot_standbys\":0,\"id\":\"s\",\"labels\":{\"app\":[\"latest\"]},\"recovery_log_prefix\":\"r\",\"sources\":[{\"journal\":\"a\",\"min_offset\":0}]}".as_slice()
+    );
     Ok(())
 }
