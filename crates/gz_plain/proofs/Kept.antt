@@ -12,7 +12,7 @@ use Rattle.gz_plain.proofs.Parts.{Within, part_inside, part_before, part_two, or
 use Rattle.gz_plain.proofs.Committed.{committed_two, committed_within, committed_messages_two, end_of_two}
 use Rattle.gz_plain.specs.Kept.{written, Kept}
 use Rattle.gz_plain.proofs.Written.{written_more, joined_more, continue_written}
-use Rattle.gz_plain.proofs.Writer.{committed_output, accepted_output}
+use Rattle.gz_plain.proofs.Transactions.{committed_output, accepted_output}
 use Rattle.gz_plain.proofs.Folds.{state_two, outputs_two}
 
 -- a shard that starts

@@ -2,14 +2,9 @@ pub mod Parts
 pub mod Committed
 pub mod Written
 pub mod Histories
-pub mod Writer
+pub mod Transactions
 pub mod Folds
 pub mod Kept
-pub mod Outside
-pub mod Fronts
-pub mod Examples
-pub mod CountLemmas
-pub mod Scanned
 pub mod Produced
 pub mod Batches
 pub mod Growth

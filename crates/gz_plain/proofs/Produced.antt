@@ -12,7 +12,7 @@ use Rattle.gz_frame.specs.Text.{Placed}
 use Rattle.gz_plain.specs.Plain.{messages_of}
 use Rattle.gz_sequencer.specs.Committed.{messages_alone, committed_after}
 use Rattle.gz_plain.proofs.Parts.{messages_two}
-use Rattle.gz_plain.proofs.Writer.{messages_of_line}
+use Rattle.gz_plain.proofs.Transactions.{messages_of_line}
 use Rattle.gz_plain.proofs.Written.{same_bytes}
 
 -- what messages release in order behind a history

@@ -2,7 +2,6 @@ pub mod Application
 pub mod Plain
 pub mod ExactlyOnce
 pub mod Kept
-pub mod Shard
 pub mod Outside
 pub mod Applications
 pub mod Journals
@@ -11,3 +10,7 @@ pub mod Shards
 pub mod Promise
 pub mod Order
 pub mod Runs
+pub mod Readers
+pub mod Seen
+pub mod Cluster
+pub mod Reports

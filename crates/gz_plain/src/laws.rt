@@ -1,22 +1,9 @@
 //! What a shard promises, for every list of happenings.
 ghost use Rattle.std.specs.Prelude.{◌≡◌, ℕ, ◌+◌, ◌<◌, ◌^◌, List, length};
-ghost use Rattle.gz_plain.specs.Plain.{start, stepped};
-ghost use Rattle.gz_plain.specs.ExactlyOnce.{ExactlyOnce, ReadsAll, Happening, after_all};
 ghost use Rattle.gz_plain.specs.Promise.{AllExactlyOnce};
 ghost use Rattle.gz_plain.specs.Order.{AreInOrder, AllRest, wirings_of};
 ghost use Rattle.gz_plain.specs.Shards.{World, round, settled};
 ghost use Rattle.gz_plain.specs.Runs.{Definition, Event, AreDefined, AreLawful, all_empty, begun, after_events};
-
-/// Whatever lands and however often the shard steps: each committed message of the source is taken once and in
-/// order, and readers of the output accept what the application puts out for them, each once and in order.
-pub fn exactly_once()
-    ensures { (producer : List ℕ) (hs : List Happening) → ExactlyOnce producer (after_all producer hs start) }
-{}
-
-/// Whatever happened before: after a step all that the source has committed is read.
-pub fn a_step_reads_all()
-    ensures { (producer : List ℕ) (hs : List Happening) → ReadsAll (stepped producer (after_all producer hs start)) }
-{}
 
 /// Any number of shards over the texts of journals, each with several sources, outputs and one of the applications,
 /// whatever clients publish and however often everything settles: each committed message of a shard's sources is

@@ -1,13 +1,15 @@
-//! A shard over plain lists, and what it promises.
+//! Journals as texts, and shards that read and write them; and what shards promise.
 #![tactic(auto)]
 
-mod counts;
+mod cluster;
+mod journals;
 mod laws;
+mod reader;
+mod report;
 mod shard;
-mod text;
-mod write;
+mod writer;
 
-pub use counts::Counts;
-pub use laws::{a_settle_ends, a_step_reads_all, every_shard_is_exactly_once, exactly_once};
-pub use shard::PlainShard;
-pub use text::MessageText;
+pub use cluster::{Cluster, Definition, Source, count_committed};
+pub use journals::{Journal, Journals};
+pub use laws::{a_settle_ends, every_shard_is_exactly_once};
+pub use report::ShardReport;

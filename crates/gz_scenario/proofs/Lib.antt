@@ -1,3 +1,3 @@
-pub mod Distinct
-pub mod Lists
-pub mod Paths
+pub mod Floats
+pub mod Again
+pub mod Accepted

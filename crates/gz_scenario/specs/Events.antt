@@ -1,56 +1,143 @@
--- The events that a scenario's later lines say.
-use Rattle.std.specs.Prelude.{ℕ, List, [], ◌∷◌, length, Option, Some, None, option_map, option_and_then, if◌then◌else◌, codes, nat_le}
+-- The events that the lines of a scenario say.
+use Rattle.std.specs.Prelude.{ℕ, ◌+◌, ◌==◌, ◌&&◌, List, [], ◌∷◌, length, Option, Some, None, option_and_then, Result, Ok, Err, if◌then◌else◌, codes, nat_le}
 use Rattle.std.specs.Str.{bytes_eq}
-use Rattle.serde_json.specs.Data.{Data}
+use Rattle.serde_json.specs.Data.{Data, Items, no_items, item}
+use Rattle.serde_json.specs.Find.{get, as_str}
+use Rattle.gz_model.specs.Steps.{◌>>=◌}
 use Rattle.gz_json.specs.Json.{json_of}
-use Rattle.gz_scenario.specs.Form.{◌>>=◌, given, has_only, text_at, number_at, items_at, short_at, own_id_at, journal_name_at, each}
-use Rattle.gz_scenario.specs.declared.events.Draft.{Draft}
-use Rattle.gz_scenario.specs.declared.events.Publish.{Publish}
-use Rattle.gz_scenario.specs.declared.events.Event.{Event}
-use Rattle.gz_scenario.specs.declared.events.Event.TheVariants.{Settle}
-use Rattle.gz_scenario.specs.declared.events.Event.TheVariants as event
+use Rattle.gz_spec.specs.Names.{is_id, is_journal_name}
+use Rattle.gz_spec.specs.Paths.{below, at_place}
+use Rattle.gz_spec.specs.Form.{found, has_only, text_at, name_at, number_at, number_or, items_at}
+use Rattle.gz_spec.specs.Specs.{specs_of}
+use Rattle.gz_spec.specs.declared.error.SpecError.{SpecError}
+use Rattle.gz_spec.specs.declared.error.SpecError.TheVariants as spec
+use Rattle.gz_scenario.specs.Refusals.{on_line}
+use Rattle.gz_scenario.specs.declared.error.ScenarioError.{ScenarioError}
+use Rattle.gz_scenario.specs.declared.error.ScenarioError.TheVariants as error
+use Rattle.gz_scenario.specs.declared.event.Flag.{Flag}
+use Rattle.gz_scenario.specs.declared.event.Flag.TheVariants.{Outside, Continue, Ack}
+use Rattle.gz_scenario.specs.declared.event.Draft.{Draft}
+use Rattle.gz_scenario.specs.declared.event.Publish.{Publish}
+use Rattle.gz_scenario.specs.declared.event.Event.{Event}
+use Rattle.gz_scenario.specs.declared.event.Event.TheVariants as event
 
--- a message of a publish, which is an OUTSIDE message
-unfoldable pub draft_in : Data → Option Draft
-draft_in d = do
-  _ ← given (has_only (codes "flag" ∷ codes "clock" ∷ codes "key" ∷ codes "value" ∷ []) d)
-  flag ← text_at (codes "flag") d
-  _ ← given (bytes_eq flag (codes "outside"))
-  clock ← number_at (codes "clock") d
-  key ← short_at 256 (codes "key") d
-  value ← short_at 4096 (codes "value") d
-  Some (record { clock = clock; key = key; value = value })
+-- ---- messages
+
+abbrev pub flag_named : List ℕ → List ℕ → Result Flag SpecError
+flag_named path text =
+    if bytes_eq text (codes "outside") then Ok Outside
+    else (if bytes_eq text (codes "continue") then Ok Continue
+    else (if bytes_eq text (codes "ack") then Ok Ack else Err (spec.BadName path)))
+
+abbrev pub flag_at : List ℕ → Data → Result Flag SpecError
+flag_at path d = text_at path (codes "flag") d >>= λ text. flag_named (below path (codes "flag")) text
+
+abbrev pub short_text : ℕ → List ℕ → List ℕ → Result (List ℕ) SpecError
+short_text most path text = if nat_le (length text) most then Ok text else Err (spec.BadNumber path)
+
+abbrev pub short_if : ℕ → List ℕ → Option Data → Result (List ℕ) SpecError
+short_if most path None = Ok []
+short_if most path (Some d) = found path (as_str d) >>= λ text. short_text most path text
+
+-- a text of at most so many bytes, which may be absent, and is empty then
+abbrev pub short_or_none : ℕ → List ℕ → List ℕ → Data → Result (List ℕ) SpecError
+short_or_none most path name d = short_if most (below path name) (get name d)
+
+abbrev pub draft_members : List (List ℕ)
+draft_members = codes "flag" ∷ codes "clock" ∷ codes "key" ∷ codes "value" ∷ []
+
+-- the greatest clock, which is below 2 to the 64
+abbrev pub max_clock : ℕ
+max_clock = 18446744073709551615
+
+-- the most bytes of a key and of a value
+abbrev pub max_key : ℕ
+max_key = 256
+
+abbrev pub max_value : ℕ
+max_value = 4096
+
+-- a message, without what its producer adds
+unfoldable pub draft_in : List ℕ → Data → Result Draft SpecError
+draft_in path d = do
+  _ ← has_only path draft_members d
+  flag ← flag_at path d
+  clock ← number_at 0 max_clock path (codes "clock") d
+  key ← short_or_none max_key path (codes "key") d
+  value ← short_or_none max_value path (codes "value") d
+  Ok (record { flag = flag; clock = clock; key = key; value = value })
+
+-- the messages from place i on
+abbrev pub drafts_from : List ℕ → ℕ → Items → Result (List Draft) SpecError
+drafts_from path i no_items = Ok []
+drafts_from path i (item d ds) = draft_in (at_place path i) d >>= λ draft. drafts_from path (i + 1) ds >>= λ rest. Ok (draft ∷ rest)
 
 -- at least one message
-unfoldable pub drafts_in : Data → Option (List Draft)
-drafts_in d = do
-  items ← items_at (codes "messages") d
-  drafts ← each draft_in items
-  _ ← given (nat_le 1 (length drafts))
-  Some drafts
+abbrev pub some_drafts : List ℕ → Items → Result (List Draft) SpecError
+some_drafts path no_items = Err (spec.BadNumber path)
+some_drafts path (item d ds) = drafts_from path 0 (item d ds)
 
-unfoldable pub publish_in : Data → Option Publish
+-- ---- publish
+
+abbrev pub publish_members : List (List ℕ)
+publish_members = codes "do" ∷ codes "client" ∷ codes "journal" ∷ codes "messages" ∷ codes "producer" ∷ []
+
+-- the greatest producer, which is below 2 to the 40
+abbrev pub max_producer : ℕ
+max_producer = 1099511627775
+
+-- A client's messages for a journal. The first producer sends them where no other is said.
+unfoldable pub publish_in : Data → Result Publish SpecError
 publish_in d = do
-  _ ← given (has_only (codes "do" ∷ codes "client" ∷ codes "journal" ∷ codes "messages" ∷ []) d)
-  client ← own_id_at (codes "client") d
-  journal ← journal_name_at (codes "journal") d
-  messages ← drafts_in d
-  Some (record { client = client; journal = journal; messages = messages })
+  _ ← has_only [] publish_members d
+  client ← name_at is_id [] (codes "client") d
+  journal ← name_at is_journal_name [] (codes "journal") d
+  items ← items_at [] (codes "messages") d
+  messages ← some_drafts (codes "messages") items
+  producer ← number_or 1 0 max_producer [] (codes "producer") d
+  Ok (record { client = client; journal = journal; messages = messages; producer = producer })
 
-unfoldable pub settle_in : Data → Option Event
+-- ---- settle
+
+unfoldable pub settle_in : Data → Result Event SpecError
 settle_in d = do
-  _ ← given (has_only (codes "do" ∷ []) d)
-  Some Settle
+  _ ← has_only [] (codes "do" ∷ []) d
+  Ok event.Settle
 
--- the event of an object that says to do this
-abbrev pub event_named : List ℕ → Data → Option Event
-event_named verb d = if bytes_eq verb (codes "settle") then settle_in d else if bytes_eq verb (codes "publish") then option_map event.Publish (publish_in d) else None
+-- ---- lines
 
-unfoldable pub event_in : Data → Option Event
-event_in d = do
-  verb ← text_at (codes "do") d
-  event_named verb d
+-- the events of later lines, by what they say to do
+abbrev pub later_event : ℕ → List ℕ → Data → Result Event ScenarioError
+later_event number verb d =
+    if bytes_eq verb (codes "publish") then on_line number event.Publish (publish_in d)
+    else (if bytes_eq verb (codes "settle") then on_line number (λ e. e) (settle_in d) else Err (error.Unknown number))
 
--- the event that a line says
-unfoldable pub event_of : List ℕ → Option Event
-event_of line = option_and_then event_in (json_of line)
+-- the first line has the specifications, and no later line has
+abbrev pub event_named : ℕ → List ℕ → List ℕ → Data → Result Event ScenarioError
+event_named number line verb d =
+    if number == 1
+    then (if bytes_eq verb (codes "specs") then on_line number event.Specs (specs_of line) else Err (error.Unknown number))
+    else later_event number verb d
+
+abbrev pub event_if : ℕ → List ℕ → Data → Option (List ℕ) → Result Event ScenarioError
+event_if number line d None = Err (error.Unknown number)
+event_if number line d (Some verb) = event_named number line verb d
+
+-- the event of an object, by what it says to do
+abbrev pub event_in : ℕ → List ℕ → Option Data → Result Event ScenarioError
+event_in number line None = Err (error.NotJson number)
+event_in number line (Some d) = event_if number line d (option_and_then as_str (get (codes "do") d))
+
+-- the most lines, and the most bytes of a line
+abbrev pub max_lines : ℕ
+max_lines = 65536
+
+abbrev pub max_line : ℕ
+max_line = 4194304
+
+-- the event that the line of this number says
+unfoldable pub event_of : ℕ → List ℕ → Result Event ScenarioError
+event_of number line =
+    if nat_le number max_lines && nat_le (length line) max_line
+    then event_in number line (json_of line)
+    else Err (error.Limit number)

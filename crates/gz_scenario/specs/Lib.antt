@@ -1,5 +1,5 @@
 pub mod Outcomes
-pub mod Names
-pub mod Form
-pub mod Specifications
+pub mod Refusals
 pub mod Events
+pub mod Lawful
+pub mod Printed

@@ -1,46 +1,81 @@
 //! Why a line is refused.
-ghost use Rattle.std.specs.Prelude.{◌≡◌};
+ghost use Rattle.std.specs.Prelude.{◌≡◌, IfOk};
+ghost use Rattle.gz_scenario.specs.Refusals.{bad_field, about, refusal_text};
 
-use gz_label::NoMemory;
-use std::alloc::{AllocError, AllocFailed};
+use gz_label::{Blob, NoMemory};
+use gz_spec::SpecError;
+use std::alloc::{AllocError, AllocFailed, Global};
 
-/// Why a line is refused.
-#[derive(Clone, Copy, Debug, PartialEq, Eq)]
-pub enum FormError {
-    /// The line isn't of the form.
-    Unknown,
+/// Why a line is refused. Lines are counted from 1.
+#[derive(Debug, Drop)]
+pub enum ScenarioError {
+    /// The line is past the 65,536th, or has more than 4,194,304 bytes.
+    Limit { line: u64 },
+    /// The line isn't JSON.
+    NotJson { line: u64 },
+    /// The line says no event that is known, or specifications elsewhere than on the first line, or
+    /// another event there.
+    Unknown { line: u64 },
+    /// A member is missing, unknown, or not what is asked for. The path names the first offender in
+    /// reading order, as `messages[2].clock`.
+    BadField { line: u64, path: Blob },
+    /// Memory ran out.
     NoMemory,
 }
 
-impl From<NoMemory> for FormError {
+impl From<NoMemory> for ScenarioError {
     ghost use Rattle.std.specs.Prelude.{◌≡◌};
-    ghost use Rattle.gz_scenario.specs.declared.error.FormError.TheVariants.{NoMemory};
+    ghost use Rattle.gz_scenario.specs.declared.error.ScenarioError.TheVariants.{NoMemory};
 
     ghost from_gives = { λ _ e. e ≡ NoMemory };
 
-    fn from(_e: NoMemory) -> FormError {
-        FormError::NoMemory
+    fn from(_e: NoMemory) -> ScenarioError {
+        ScenarioError::NoMemory
     }
 }
 
-impl From<AllocError> for FormError {
-    ghost use Rattle.std.specs.Prelude.{◌≡◌};
-    ghost use Rattle.gz_scenario.specs.declared.error.FormError.TheVariants.{NoMemory};
-
-    ghost from_gives = { λ _ e. e ≡ NoMemory };
-
-    fn from(_e: AllocError) -> FormError {
-        FormError::NoMemory
+/// What is wrong in this line, by what is wrong at a place of it.
+pub fn bad_field(line: u64, error: SpecError) -> ScenarioError
+    ensures { result ≡ bad_field line error }
+{
+    match error {
+        SpecError::NotJson => ScenarioError::NotJson { line },
+        SpecError::BadField { path } => ScenarioError::BadField { line, path },
+        SpecError::BadName { path } => ScenarioError::BadField { line, path },
+        SpecError::BadNumber { path } => ScenarioError::BadField { line, path },
+        SpecError::Codec { path } => ScenarioError::BadField { line, path },
+        SpecError::Twice { path } => ScenarioError::BadField { line, path },
+        SpecError::NoJournal { path } => ScenarioError::BadField { line, path },
+        SpecError::Cycle { path } => ScenarioError::BadField { line, path },
+        SpecError::NoMemory => ScenarioError::NoMemory,
     }
 }
 
-impl<T: Drop> From<AllocFailed<T>> for FormError {
-    ghost use Rattle.std.specs.Prelude.{◌≡◌};
-    ghost use Rattle.gz_scenario.specs.declared.error.FormError.TheVariants.{NoMemory};
+/// The line's number, and these words.
+fn about(alloc: Global, line: u64, words: &[u8]) -> Result<Blob, NoMemory>
+    ensures { IfOk result (λ text. text ≡ about line words.now) }
+{
+    let front = format!(in alloc; "line {line}: ")?;
+    let mut text = Blob::of(alloc, front.as_str().as_bytes())?;
+    text.append(words)?;
+    Ok(text)
+}
 
-    ghost from_gives = { λ _ e. e ≡ NoMemory };
-
-    fn from(_e: AllocFailed<T>) -> FormError {
-        FormError::NoMemory
+impl ScenarioError {
+    /// The text of the refusal, without a newline, as `line 7: bad field messages[2].clock`.
+    pub fn print(&self, alloc: Global) -> Result<Blob, NoMemory>
+        ensures { IfOk result (λ text. text ≡ refusal_text self.now) }
+    {
+        match self {
+            ScenarioError::Limit { line } => about(alloc, *line, b"limit"),
+            ScenarioError::NotJson { line } => about(alloc, *line, b"not JSON"),
+            ScenarioError::Unknown { line } => about(alloc, *line, b"unknown event"),
+            ScenarioError::BadField { line, path } => {
+                let mut text = about(alloc, *line, b"bad field ")?;
+                text.append(path.as_slice())?;
+                Ok(text)
+            }
+            ScenarioError::NoMemory => Blob::of(alloc, b"no memory"),
+        }
     }
 }

@@ -1,17 +1,18 @@
-//! The lines of a scenario: the specifications that it begins with, and the events that follow.
+//! Scenarios: each line is an event, and the first one has the specifications that it begins with.
 #![tactic(auto)]
 
 mod error;
-mod events;
-mod form;
-mod members;
-mod names;
-mod specifications;
+mod event;
+mod print;
+mod publish;
+mod read;
+mod text;
 
-pub use error::FormError;
-pub use events::{Draft, Drafts, Event, Publish, read_event};
-pub use members::{MemberSpec, Members};
-pub use specifications::{Content, JournalSpec, Journals, ShardSpec, Specs, read_specs};
+pub use error::ScenarioError;
+pub use event::{Draft, Drafts, Event, Flag, Publish};
+pub use print::{print_publish, print_settle};
+pub use read::read_event;
+pub use text::Text;
 
 #[cfg(test)]
 mod tests;

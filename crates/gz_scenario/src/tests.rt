@@ -1,87 +1,338 @@
-//! Lines that are of the form, and lines that miss it by one thing each.
-use crate::{FormError, read_event, read_specs};
+//! Lines that say events, and lines that miss one by a thing each.
+use crate::{Event, Flag, print_publish, print_settle, read_event};
+use gz_label::Blob;
+use std::alloc::Global;
 use std::test::Fail;
 
-const SPECS: &str =
-    "{\"do\":\"specs\",\"journals\":[{\"name\":\"out\",\"labels\":{\"content-type\":[\"application/x-ndjson\"]}},{\"name\":\"recovery/s1\",\"labels\":{\"content-type\":[\"application/x-gazette-recoverylog\"]}},{\"name\":\"src/a\",\"labels\":{\"content-type\":[\"application/x-ndjson\"]}}],\"shards\":[{\"id\":\"s1\",\"sources\":[{\"journal\":\"src/a\"}],\"recovery_log_prefix\":\"recovery\",\"labels\":{\"app\":[\"count\"],\"output\":[\"out\"]}}],\"brokers\":[{\"id\":\"b1\",\"zone\":\"z1\",\"limit\":16},{\"id\":\"b2\",\"zone\":\"z2\",\"limit\":16}],\"consumers\":[{\"id\":\"c1\",\"zone\":\"z1\",\"limit\":4},{\"id\":\"c2\",\"zone\":\"z1\",\"limit\":4},{\"id\":\"c3\",\"zone\":\"z1\",\"limit\":4}]}";
-
 const PUBLISH: &str =
-    "{\"do\":\"publish\",\"client\":\"k1\",\"journal\":\"src/a\",\"messages\":[{\"flag\":\"outside\",\"clock\":18446744073709551615,\"key\":\"\",\"value\":\"é\"}]}";
+    "{\"do\":\"publish\",\"client\":\"k\",\"journal\":\"j\",\"messages\":[{\"flag\":\"ack\",\"clock\":7},{\"flag\":\"outside\",\"clock\":8,\"key\":\"a\",\"value\":\"b\"}],\"producer\":3}";
+
+// The same, with the members in the order of their names, as it is printed.
+const PRINTED: &str =
+    "{\"client\":\"k\",\"do\":\"publish\",\"journal\":\"j\",\"messages\":[{\"clock\":7,\"flag\":\"ack\",\"key\":\"\",\"value\":\"\"},{\"clock\":8,\"flag\":\"outside\",\"key\":\"a\",\"value\":\"b\"}],\"producer\":3}";
+
+// The text of the refusal, and none where the line is taken.
+fn refused(alloc: Global, number: u64, line: &[u8]) -> Result<Blob, Fail> {
+    match read_event(alloc, number, line) {
+        Ok(_) => Ok(Blob::new(alloc)),
+        Err(e) => Ok(e.print(alloc)?),
+    }
+}
+
+// The text of the refusal, where this stands in place of a part of the line above.
+fn refused_with(alloc: Global, part: &str, other: &str) -> Result<Blob, Fail> {
+    let line = PUBLISH.replace(alloc, part, other)?;
+    refused(alloc, 2, line.as_bytes())
+}
 
 #[test]
-fn specifications(rt: HostRuntime) -> Result<(), Fail> {
+fn faults_1(rt: HostRuntime) -> Result<(), Fail> {
     let alloc = rt.alloc();
-    let good = [
-        SPECS,
-        "{\"do\":\"specs\"}",
-        "{\"journals\":[],\"do\":\"settle\",\"do\":\"specs\"}",
-        "{\"do\":\"specs\",\"brokers\":[{\"limit\":1024,\"zone\":\"z\",\"id\":\"keys1\"}]}",
-    ];
-    for line in good {
-        let refused = read_specs(alloc, line.as_bytes()).err();
-        assert_eq!(rt; refused, None, "at {line}");
-    }
-    // a part of the line above, and what stands in its place in a bad one
-    let edits = [
-        ("\"do\":\"specs\"", "\"do\":\"settle\""),
-        ("\"do\":\"specs\"", "\"do\":\"specs\",\"more\":1"),
-        ("\"shards\":[", "\"shards\":[{},"),
-        ("\"brokers\":[", "\"brokers\":{}, \"b\":["),
-        ("src/a", "src//a"),
-        ("src/a", "src/a/"),
-        ("{\"name\":\"out\"", "{\"name\":\"src/a\""),
-        ("[\"application/x-ndjson\"]", "[]"),
-        ("x-ndjson", "x-json"),
-        ("\"id\":\"s1\"", "\"id\":\"s2\""),
-        ("\"id\":\"s1\"", "\"id\":\"\""),
-        ("[\"count\"]", "[\"sum\"]"),
-        ("[\"out\"]", "[\"src/a\"]"),
-        ("[\"out\"]", "[\"recovery/s1\"]"),
-        ("\"journal\":\"src/a\"", "\"journal\":\"recovery/s1\""),
-        ("\"limit\":16", "\"limit\":1025"),
-        ("\"limit\":16", "\"limit\":1.0"),
-        ("\"id\":\"b2\"", "\"id\":\"c1\""),
-        ("\"id\":\"b2\"", "\"id\":\"store\""),
-        ("\"id\":\"b2\"", "\"id\":\"b.2\""),
-        ("\"zone\":\"z2\"", "\"zone\":\"z 2\""),
-    ];
-    for (part, other) in edits {
-        let line = SPECS.replace(alloc, part, other)?;
-        let refused = read_specs(alloc, line.as_bytes()).err();
-        assert_eq!(rt; refused, Some(FormError::Unknown), "at {line}");
+    for (part, other, want) in [
+        ("\"publish\"", "\"publishes\"", "line 2: unknown event"),
+        ("\"publish\"", "\"Publish\"", "line 2: unknown event"),
+        ("\"publish\"", "\"specs\"", "line 2: unknown event"),
+        ("\"publish\"", "\"\"", "line 2: unknown event"),
+        ("\"publish\"", "1", "line 2: unknown event"),
+        ("\"publish\"", "[\"publish\"]", "line 2: unknown event"),
+        ("\"do\":\"publish\",", "", "line 2: unknown event"),
+        ("\"do\"", "\"Do\"", "line 2: unknown event"),
+        ("3}", "3", "line 2: not JSON"),
+        ("3}", "3}}", "line 2: not JSON"),
+        ("3}", "3,}", "line 2: not JSON"),
+        ("\"k\"", "'k'", "line 2: not JSON"),
+        ("7", "07", "line 2: not JSON"),
+        ("7", "+7", "line 2: not JSON"),
+    ] {
+        let text = refused_with(alloc, part, other)?;
+        assert_eq!(rt; text.as_slice(), want.as_bytes(), "at {other}");
     }
     Ok(())
 }
 
 #[test]
-fn later_lines(rt: HostRuntime) -> Result<(), Fail> {
+fn faults_2(rt: HostRuntime) -> Result<(), Fail> {
     let alloc = rt.alloc();
-    for line in [PUBLISH, "{\"do\":\"settle\"}", " {\"do\" : \"settle\"} "] {
-        let refused = read_event(alloc, line.as_bytes()).err();
-        assert_eq!(rt; refused, None, "at {line}");
+    for (part, other, want) in [
+        ("}]", "}", "line 2: not JSON"),
+        ("3", "3,\"to\":\"b1\"", "line 2: bad field to"),
+        ("3", "3,\"b\":1,\"a\":2", "line 2: bad field a"),
+        ("3", "3,\"Client\":1", "line 2: bad field Client"),
+        ("\"client\"", "\"z\"", "line 2: bad field z"),
+        ("\"publish\"", "\"settle\"", "line 2: bad field client"),
+        ("\"client\":\"k\",", "", "line 2: bad field client"),
+        ("\"k\"", "1", "line 2: bad field client"),
+        ("\"k\"", "null", "line 2: bad field client"),
+        ("\"k\"", "\"\"", "line 2: bad field client"),
+        ("\"k\"", "\"k/1\"", "line 2: bad field client"),
+        ("\"k\"", "\"k.1\"", "line 2: bad field client"),
+        ("\"k\"", "\"é\"", "line 2: bad field client"),
+        (
+            "\"k\"",
+            "\"abcdefghijabcdefghijabcdefghijabc\"",
+            "line 2: bad field client",
+        ),
+    ] {
+        let text = refused_with(alloc, part, other)?;
+        assert_eq!(rt; text.as_slice(), want.as_bytes(), "at {other}");
     }
-    let edits = [
-        ("publish", "settle"),
-        ("publish", "append"),
-        ("\"client\":\"k1\",", ""),
-        ("k1", "client12"),
-        ("k1", "k/1"),
-        ("src/a", "/a"),
-        ("\"messages\":[", "\"messages\":[],\"more\":["),
-        ("[{", "[],\"x\":[{"),
-        ("outside", "continue"),
-        ("18446744073709551615", "18446744073709551616"),
-        ("18446744073709551615", "-1"),
-        ("\"key\":\"\",", ""),
-        ("\"value\":", "\"value\":\"\",\"x\":"),
-        ("}]}", "}]"),
-    ];
-    for (part, other) in edits {
+    Ok(())
+}
+
+#[test]
+fn faults_3(rt: HostRuntime) -> Result<(), Fail> {
+    let alloc = rt.alloc();
+    for (part, other, want) in [
+        (
+            "\"k\",\"journal\":\"j\"",
+            "\"\"",
+            "line 2: bad field client",
+        ),
+        ("\"journal\":\"j\",", "", "line 2: bad field journal"),
+        ("\"j\"", "7", "line 2: bad field journal"),
+        ("\"j\"", "\"\"", "line 2: bad field journal"),
+        ("\"j\"", "\"/j\"", "line 2: bad field journal"),
+        ("\"j\"", "\"j/\"", "line 2: bad field journal"),
+        ("\"j\"", "\"a//b\"", "line 2: bad field journal"),
+        ("\"j\"", "\"a b\"", "line 2: bad field journal"),
+        (
+            "\"j\"",
+            "\"j\",\"producer\":-1,\"journal\":2",
+            "line 2: bad field journal",
+        ),
+        (
+            "\"producer\":3",
+            "\"messages\":[]",
+            "line 2: bad field messages",
+        ),
+        (
+            "\"producer\":3",
+            "\"messages\":{}",
+            "line 2: bad field messages",
+        ),
+        (
+            "\"producer\":3",
+            "\"messages\":null",
+            "line 2: bad field messages",
+        ),
+        (
+            "\"producer\":3",
+            "\"messages\":\"\"",
+            "line 2: bad field messages",
+        ),
+        (
+            "\"producer\":3",
+            "\"messages\":[1]",
+            "line 2: bad field messages[0]",
+        ),
+    ] {
+        let text = refused_with(alloc, part, other)?;
+        assert_eq!(rt; text.as_slice(), want.as_bytes(), "at {other}");
+    }
+    Ok(())
+}
+
+#[test]
+fn faults_4(rt: HostRuntime) -> Result<(), Fail> {
+    let alloc = rt.alloc();
+    for (part, other, want) in [
+        (
+            "\"producer\":3",
+            "\"messages\":[[]]",
+            "line 2: bad field messages[0]",
+        ),
+        (
+            "\"producer\":3",
+            "\"messages\":[{}]",
+            "line 2: bad field messages[0].flag",
+        ),
+        ("}]", "},0,1]", "line 2: bad field messages[2]"),
+        (
+            "\"a\"",
+            "\"a\",\"f\":0,\"e\":0",
+            "line 2: bad field messages[1].e",
+        ),
+        (
+            "\"flag\":\"ack\",",
+            "",
+            "line 2: bad field messages[0].flag",
+        ),
+        ("\"ack\"", "\"begin\"", "line 2: bad field messages[0].flag"),
+        ("\"ack\"", "2", "line 2: bad field messages[0].flag"),
+        (
+            "\"outside\"",
+            "\"OUTSIDE\"",
+            "line 2: bad field messages[1].flag",
+        ),
+        (
+            "\"ack\",\"clock\":7",
+            "0,\"clock\":-7",
+            "line 2: bad field messages[0].flag",
+        ),
+        (",\"clock\":8", "", "line 2: bad field messages[1].clock"),
+        ("7", "-1", "line 2: bad field messages[0].clock"),
+        ("7", "\"7\"", "line 2: bad field messages[0].clock"),
+        ("7", "7.0", "line 2: bad field messages[0].clock"),
+        ("7", "7e0", "line 2: bad field messages[0].clock"),
+    ] {
+        let text = refused_with(alloc, part, other)?;
+        assert_eq!(rt; text.as_slice(), want.as_bytes(), "at {other}");
+    }
+    Ok(())
+}
+
+#[test]
+fn faults_5(rt: HostRuntime) -> Result<(), Fail> {
+    let alloc = rt.alloc();
+    for (part, other, want) in [
+        (
+            "7",
+            "18446744073709551616",
+            "line 2: bad field messages[0].clock",
+        ),
+        (
+            "8",
+            "8,\"key\":0,\"clock\":{}",
+            "line 2: bad field messages[1].clock",
+        ),
+        ("\"a\"", "0", "line 2: bad field messages[1].key"),
+        ("\"a\"", "null", "line 2: bad field messages[1].key"),
+        (
+            "\"a\",\"value\":\"b\"",
+            "[],\"value\":[]",
+            "line 2: bad field messages[1].key",
+        ),
+        ("\"b\"", "true", "line 2: bad field messages[1].value"),
+        (":3", ":-1", "line 2: bad field producer"),
+        (":3", ":null", "line 2: bad field producer"),
+        (":3", ":\"3\"", "line 2: bad field producer"),
+        (":3", ":3.5", "line 2: bad field producer"),
+        (":3", ":1099511627776", "line 2: bad field producer"),
+    ] {
+        let text = refused_with(alloc, part, other)?;
+        assert_eq!(rt; text.as_slice(), want.as_bytes(), "at {other}");
+    }
+    Ok(())
+}
+
+#[test]
+fn taken(rt: HostRuntime) -> Result<(), Fail> {
+    let alloc = rt.alloc();
+    for (part, other) in [
+        ("\"k\"", "\"client7\""),
+        ("\"k\"", "\"abcdefghijabcdefghijabcdefghijab\""),
+        ("\"j\"", "\"a/b.c/-_0\""),
+        ("7", "18446744073709551615"),
+        ("7", "0"),
+        ("\"a\"", "\"\\u00e9\\n\""),
+        (":3", ":1099511627775"),
+        (":3", ":0"),
+        (",\"producer\":3", ""),
+        ("3}", "3} \n"),
+        ("\"publish\"", "\"settle\",\"do\":\"publish\""),
+    ] {
         let line = PUBLISH.replace(alloc, part, other)?;
-        let refused = read_event(alloc, line.as_bytes()).err();
-        assert_eq!(rt; refused, Some(FormError::Unknown), "at {line}");
+        let text = refused(alloc, 65_536, line.as_bytes())?;
+        assert_eq!(rt; text.as_slice(), b"".as_slice(), "at {line}");
     }
-    let refused = read_event(alloc, b"\"\xff\"").err();
-    assert_eq!(rt; refused, Some(FormError::Unknown));
+    Ok(())
+}
+
+#[test]
+fn by_line(rt: HostRuntime) -> Result<(), Fail> {
+    let alloc = rt.alloc();
+    for (number, line, want) in [
+        (1, "{\"do\":\"specs\"}", ""),
+        (
+            1,
+            "{\"do\":\"specs\",\"journals\":[{\"name\":\"j\"}]}\n",
+            "",
+        ),
+        (2, "{\"do\":\"settle\"}\n", ""),
+        (2, " {\"do\" : \"settle\"} ", ""),
+        (2, "{\"do\":\"specs\"}", "line 2: unknown event"),
+        (1, "{\"do\":\"settle\"}", "line 1: unknown event"),
+        (1, PUBLISH, "line 1: unknown event"),
+        (1, "{\"do\":\"specs\"", "line 1: not JSON"),
+        (1, "[]", "line 1: unknown event"),
+        (3, "\"settle\"", "line 3: unknown event"),
+        (3, "", "line 3: not JSON"),
+        (
+            9,
+            "{\"do\":\"settle\",\"b\":0,\"a\":1}",
+            "line 9: bad field a",
+        ),
+        (1, "{\"do\":\"specs\",\"x\":1}", "line 1: bad field x"),
+        (
+            1,
+            "{\"do\":\"specs\",\"journals\":[{\"name\":\"\"}]}",
+            "line 1: bad field journals[0].name",
+        ),
+        (
+            1,
+            "{\"do\":\"specs\",\"brokers\":[{\"id\":\"b\",\"zone\":\"z\",\"limit\":1025}]}",
+            "line 1: bad field brokers[0].limit",
+        ),
+        (65_537, "{\"do\":\"settle\"}", "line 65537: limit"),
+        (65_537, "", "line 65537: limit"),
+    ] {
+        let text = refused(alloc, number, line.as_bytes())?;
+        assert_eq!(rt; text.as_slice(), want.as_bytes(), "at {line}");
+    }
+    let text = refused(alloc, 4, b"\"\xff\"")?;
+    assert_eq!(rt; text.as_slice(), b"line 4: not JSON".as_slice());
+    Ok(())
+}
+
+// Texts of so many letters in place of the key and of the value.
+#[test]
+fn limits(rt: HostRuntime) -> Result<(), Fail> {
+    let alloc = rt.alloc();
+    for (part, count, want) in [
+        ("\"a\"", 256, ""),
+        ("\"a\"", 257, "line 2: bad field messages[1].key"),
+        ("\"b\"", 4096, ""),
+        ("\"b\"", 4097, "line 2: bad field messages[1].value"),
+    ] {
+        let letters = "x".repeat(alloc, count)?;
+        let other = format!(in alloc; "\"{letters}\"")?;
+        let line = PUBLISH.replace(alloc, part, other.as_str())?;
+        let text = refused(alloc, 2, line.as_bytes())?;
+        assert_eq!(rt; text.as_slice(), want.as_bytes(), "of {count}");
+    }
+    for (count, want) in [
+        (4_194_304, b"line 2: not JSON".as_slice()),
+        (4_194_305, b"line 2: limit".as_slice()),
+    ] {
+        let spaces = vec![in alloc; b' '; count]?;
+        let text = refused(alloc, 2, spaces.as_slice())?;
+        assert_eq!(rt; text.as_slice(), want, "of {count}");
+    }
+    Ok(())
+}
+
+#[test]
+fn printed(rt: HostRuntime) -> Result<(), Fail> {
+    let alloc = rt.alloc();
+    let Ok(Event::Publish(publish)) = read_event(alloc, 2, PUBLISH.as_bytes()) else {
+        return Err(Fail::from("no publish"));
+    };
+    assert_eq!(rt; publish.client.as_str(), "k");
+    assert_eq!(rt; publish.journal.as_str(), "j");
+    assert_eq!(rt; publish.producer, 3);
+    let messages = publish.messages.as_slice();
+    assert_eq!(rt; messages.len(), 2);
+    for message in messages {
+        let is_first = message.clock == 7;
+        assert_eq!(rt; message.flag == Flag::Ack, is_first);
+        assert_eq!(rt; message.key.as_str(), if is_first { "" } else { "a" });
+        assert_eq!(rt; message.value.as_str(), if is_first { "" } else { "b" });
+    }
+    let line = print_publish(alloc, &publish)?;
+    assert_eq!(rt; line.as_slice(), PRINTED.as_bytes());
+    let settle = print_settle(alloc)?;
+    assert_eq!(rt; settle.as_slice(), b"{\"do\":\"settle\"}".as_slice());
+    let text = refused(alloc, 2, settle.as_slice())?;
+    assert_eq!(rt; text.as_slice(), b"".as_slice());
     Ok(())
 }

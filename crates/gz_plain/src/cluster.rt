@@ -1,0 +1,109 @@
+//! Journals and the shards that read and write them.
+ghost use Rattle.std.specs.Prelude.{◌≡◌, ◌+◌, ◌<◌, ◌≤◌, ◌^◌, length, map, IfOk, OnOk, OnErr};
+ghost use Rattle.gz_plain.specs.Journals.{appended, place_of};
+ghost use Rattle.gz_plain.specs.Reports.{count_committed as committed_in, report_of};
+ghost use Rattle.gz_plain.specs.Runs.{Distinct, begun};
+ghost use Rattle.gz_plain.specs.Shards.{settled};
+ghost use Rattle.gz_plain.specs.Cluster.{AreSmall, definitions_of};
+
+use crate::journals::{Journal, Journals};
+use crate::report::ShardReport;
+use crate::shard::Shard;
+use gz_app::AppKind;
+use gz_label::{Name, NoMemory};
+use std::alloc::Global;
+use std::marker::Model;
+
+/// A source of a shard: a journal, and the offset from which it is read.
+#[derive(Debug, Drop)]
+pub struct Source {
+    pub journal: Name,
+    pub from: u64,
+}
+
+/// What a shard is said to be. Outputs are in rising order of their names.
+#[derive(Drop)]
+pub struct Definition {
+    pub sources: Vec<Source>,
+    pub outputs: Vec<Name>,
+    pub app: AppKind,
+    pub is_disabled: bool,
+}
+
+/// Journals, and the shards that read and write them. Contracts see their texts, and the shards as the definitions have them.
+#[derive(Drop)]
+pub struct Cluster {
+    journals: Journals,
+    shards: Vec<Shard>,
+}
+
+impl Model for Cluster {
+    ghost use Rattle.gz_plain.specs.Shards.{World};
+    ghost use Rattle.gz_plain.specs.Seen.{shards_of};
+
+    ghost Value = { World };
+
+    ghost view = { λ a. record { journals = a.journals; shards = shards_of a.shards.items } };
+}
+
+impl Cluster {
+    /// Empty journals of these names, and shards of these definitions, which have read nothing. The producer of a
+    /// shard's lines is 05 and its place in the list, from 1.
+    pub fn begin(
+        alloc: Global,
+        names: Vec<Name>,
+        definitions: Vec<Definition>,
+    ) -> Result<Cluster, NoMemory>
+        requires names { Distinct names.items }
+        requires few { 1 + length definitions.items < 2 ^ 40 }
+        requires offsets { AreSmall definitions.items }
+        ensures { IfOk result (λ cluster. cluster ≡ begun names.items (definitions_of definitions.items)) }
+    {
+        Err(NoMemory)
+    }
+
+    /// The journals, in the order in which they were named. It takes no memory.
+    pub fn journals(&self) -> &[Journal]
+        ensures { result.now ≡ self.now.journals }
+    {
+        self.journals.as_slice()
+    }
+
+    /// The place of the first journal of this name, and how many there are where there is none.
+    pub fn place_of(&self, name: &[u8]) -> usize
+        ensures { result ≡ place_of name.now self.now.journals }
+    {
+        self.journals.place_of(name)
+    }
+
+    /// Puts the bytes behind the text of the journal of this name, if there is one. After NoMemory nothing has changed.
+    pub fn append(&mut self, name: &[u8], bytes: &[u8]) -> Result<(), NoMemory>
+        ensures ok { OnOk result (self.new ≡ record self.old { journals = appended name.now bytes.now self.old.journals }) }
+        ensures err { OnErr result (self.new ≡ self.old) }
+    {
+        Err(NoMemory)
+    }
+
+    /// Everything that is due happens: the shards step in turn, again and again until nothing more is released. After
+    /// NoMemory it isn't used again.
+    pub fn settle(&mut self, alloc: Global) -> Result<(), NoMemory>
+        ensures { OnOk result (self.new ≡ settled self.old) }
+    {
+        Err(NoMemory)
+    }
+
+    /// What is told of each shard.
+    pub fn reports(&self, alloc: Global) -> Result<Vec<ShardReport>, NoMemory>
+        ensures { IfOk result (λ reports. reports.items ≡ map (report_of self.now.journals) self.now.shards) }
+    {
+        Err(NoMemory)
+    }
+}
+
+/// How many messages of a journal's text are committed.
+pub fn count_committed(alloc: Global, text: &[u8]) -> Result<usize, NoMemory>
+    requires { length text.now ≤ 2 ^ 62 }
+    ensures { IfOk result (λ count. count ≡ committed_in text.now) }
+{
+    Err(NoMemory)
+}

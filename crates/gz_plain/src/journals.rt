@@ -1,0 +1,125 @@
+//! Journals: texts that only grow.
+ghost use Rattle.std.specs.Prelude.{◌≡◌, ◌≤◌, ◌^◌, ◌++◌, ◌∷◌, [], length, OnOk, OnErr, All};
+ghost use Rattle.gz_plain.specs.Journals.{place_of};
+
+use gz_label::{Blob, Name, NoMemory};
+use std::alloc::Global;
+use std::marker::Model;
+
+/// The most bytes of a journal, 2^62. No memory holds more.
+const MAX_TEXT: usize = 1 << 62;
+
+/// A journal: its name, and its text, of at most 2^62 bytes.
+#[derive(Debug, Drop)]
+pub struct Journal {
+    name: Name,
+    text: Blob,
+}
+
+impl Model for Journal {
+    ghost use Rattle.std.specs.Prelude.{length, ◌≤◌, ◌^◌};
+    ghost use Rattle.gz_plain.specs.Journals.{Journal as Seen};
+
+    ghost Value = { Seen };
+
+    ghost view = { λ a. record { name = a.name; text = a.text } };
+
+    ghost invariant = { λ a. length a.text ≤ 2 ^ 62 };
+}
+
+impl Journal {
+    /// An empty journal of this name. It takes no memory.
+    pub fn new(alloc: Global, name: Name) -> Journal
+        ensures { result ≡ record { name = name; text = [] } }
+    {
+        Journal {
+            name,
+            text: Blob::new(alloc),
+        }
+    }
+
+    /// The name. It takes no memory.
+    pub fn name(&self) -> &Name
+        ensures { result.now ≡ self.now.name }
+    {
+        &self.name
+    }
+
+    /// The text. It takes no memory.
+    pub fn text(&self) -> &[u8]
+        ensures value { result.now ≡ self.now.text }
+        ensures short { length self.now.text ≤ 2 ^ 62 }
+    {
+        self.text.as_slice()
+    }
+
+    /// Puts the bytes behind the text. After NoMemory nothing has changed.
+    pub fn append(&mut self, bytes: &[u8]) -> Result<(), NoMemory>
+        ensures ok { OnOk result (self.new ≡ record self.old { text = self.old.text ++ bytes.now }) }
+        ensures err { OnErr result (self.new ≡ self.old) }
+    {
+        if bytes.len() > MAX_TEXT - self.text.len() {
+            return Err(NoMemory);
+        }
+        self.text.append(bytes)
+    }
+}
+
+/// Journals, which a contract sees as their list.
+#[derive(Debug, Drop)]
+pub struct Journals {
+    journals: Vec<Journal>,
+}
+
+impl Model for Journals {
+    ghost use Rattle.std.specs.Prelude.{List};
+    ghost use Rattle.gz_plain.specs.Journals.{Journal};
+
+    ghost Value = { List Journal };
+
+    ghost view = { λ a. a.journals.items };
+}
+
+fn place_among(journals: &[Journal], name: &[u8]) -> usize
+    ensures { result ≡ place_of name.now journals.now }
+{
+    for (i, journal) in journals.iter().enumerate() {
+        if journal.name().as_slice() == name {
+            return i;
+        }
+    }
+    journals.len()
+}
+
+impl Journals {
+    /// No journals. It takes no memory.
+    pub fn new(alloc: Global) -> Journals
+        ensures { result ≡ [] }
+    {
+        Journals {
+            journals: Vec::new(alloc),
+        }
+    }
+
+    /// Adds an empty journal behind the others.
+    pub fn add(&mut self, alloc: Global, name: Name) -> Result<(), NoMemory>
+        ensures { OnOk result (self.new ≡ self.old ++ record { name = name; text = [] } ∷ []) }
+    {
+        self.journals.push(Journal::new(alloc, name))?;
+        Ok(())
+    }
+
+    /// The journals. It takes no memory.
+    pub fn as_slice(&self) -> &[Journal]
+        ensures { result.now ≡ self.now }
+    {
+        self.journals.as_slice()
+    }
+
+    /// The place of the first journal of this name, and how many there are where there is none.
+    pub fn place_of(&self, name: &[u8]) -> usize
+        ensures { result ≡ place_of name.now self.now }
+    {
+        place_among(self.journals.as_slice(), name)
+    }
+}

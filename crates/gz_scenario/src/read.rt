@@ -1,0 +1,106 @@
+//! The events that lines say.
+ghost use Rattle.std.specs.Prelude.{◌≡◌, Some, IfOk, IsTrue};
+ghost use Rattle.serde_json.specs.View.{view};
+ghost use Rattle.gz_spec.specs.Outcomes.{Gives as GivesSpec};
+ghost use Rattle.gz_scenario.specs.Outcomes.{Gives};
+ghost use Rattle.gz_scenario.specs.Refusals.{on_line};
+ghost use Rattle.gz_scenario.specs.Events.{settle_in, later_event, event_named, event_in, event_of};
+ghost use Rattle.gz_scenario.specs.Lawful.{is_event};
+
+use crate::error::bad_field;
+use crate::publish::read_publish;
+use crate::{Event, ScenarioError};
+use gz_label::Blob;
+use gz_spec::{SpecError, read_specs, refuse_unknown};
+use serde_json::Value;
+use std::alloc::Global;
+
+/// The most lines of a scenario.
+const MAX_LINES: u64 = 65_536;
+
+/// The most bytes of a line.
+const MAX_LINE: usize = 4_194_304;
+
+#[tactic(auto, unfolding(crate::specs::Events::settle_in))]
+fn read_settle(alloc: Global, value: &Value) -> Result<Event, SpecError>
+    ensures gives { GivesSpec (λ e. e) result (settle_in (view value.now)) }
+    ensures lawful { IfOk result (λ e. IsTrue (is_event e)) }
+{
+    refuse_unknown(alloc, &Blob::new(alloc), value, &["do"])?;
+    Ok(Event::Settle)
+}
+
+/// The event of a later line, by what it says to do.
+fn read_later(alloc: Global, number: u64, verb: &str, value: &Value) -> Result<Event, ScenarioError>
+    ensures gives { Gives (λ e. e) result (later_event number verb.now (view value.now)) }
+    ensures lawful { IfOk result (λ e. IsTrue (is_event e)) }
+{
+    if verb == "publish" {
+        return match read_publish(alloc, value) {
+            Ok(publish) => Ok(Event::Publish(publish)),
+            Err(e) => Err(bad_field(number, e)),
+        };
+    }
+    if verb == "settle" {
+        return match read_settle(alloc, value) {
+            Ok(event) => Ok(event),
+            Err(e) => Err(bad_field(number, e)),
+        };
+    }
+    Err(ScenarioError::Unknown { line: number })
+}
+
+/// The specifications that the first line says.
+fn read_first(alloc: Global, verb: &str, line: &[u8], value: &Value) -> Result<Event, ScenarioError>
+    ensures gives { Gives (λ e. e) result (event_named 1 line.now verb.now (view value.now)) }
+    ensures lawful { IfOk result (λ e. IsTrue (is_event e)) }
+{
+    if verb != "specs" {
+        return Err(ScenarioError::Unknown { line: 1 });
+    }
+    match read_specs(alloc, line) {
+        Ok(specs) => Ok(Event::Specs(specs)),
+        Err(e) => Err(bad_field(1, e)),
+    }
+}
+
+fn read_value(
+    alloc: Global,
+    number: u64,
+    line: &[u8],
+    value: &Value,
+) -> Result<Event, ScenarioError>
+    ensures gives { Gives (λ e. e) result (event_in number line.now (Some (view value.now))) }
+    ensures lawful { IfOk result (λ e. IsTrue (is_event e)) }
+{
+    let Some(verb) = value.get("do").and_then(Value::as_str) else {
+        return Err(ScenarioError::Unknown { line: number });
+    };
+    if number == 1 {
+        let event = read_first(alloc, verb, line, value)?;
+        return Ok(event);
+    }
+    let event = read_later(alloc, number, verb, value)?;
+    Ok(event)
+}
+
+/// The event that the line of this number says, counted from 1: specifications on the first line, and any
+/// other event on a later one. The line may end in a newline. The error is the first that holds: Limit
+/// past 65,536 lines or 4,194,304 bytes, NotJson, Unknown where the line says no such event, and BadField
+/// with the path of its first offender: an unknown member in name order, else the members in the order
+/// `client`, `journal`, `messages`, `producer`, and of a message `flag`, `clock`, `key`, `value`. Time goes
+/// with the bytes of the line.
+#[tactic(auto, unfolding(crate::specs::Events::event_of))]
+pub fn read_event(alloc: Global, number: u64, line: &[u8]) -> Result<Event, ScenarioError>
+    ensures gives { Gives (λ e. e) result (event_of number line.now) }
+    ensures lawful { IfOk result (λ e. IsTrue (is_event e)) }
+{
+    if number > MAX_LINES || line.len() > MAX_LINE {
+        return Err(ScenarioError::Limit { line: number });
+    }
+    let Some(value) = gz_json::parse(alloc, line)? else {
+        return Err(ScenarioError::NotJson { line: number });
+    };
+    let event = read_value(alloc, number, line, &value)?;
+    Ok(event)
+}
