@@ -8,7 +8,9 @@ pub mod Kept
 pub mod Produced
 pub mod Batches
 pub mod Growth
+pub mod Longer
 pub mod Takes
+pub mod Reading
 pub mod Lines
 pub mod Writes
 pub mod Steps

@@ -1,10 +1,21 @@
 //! What a shard reads of a source.
-ghost use Rattle.std.specs.Prelude.{◌≡◌};
-ghost use Rattle.gz_sequencer.specs.Machine.{point_of, started};
+ghost use Rattle.std.specs.Prelude.{◌≡◌, ◌≤◌, ◌^◌, ◌-◌, ◌++◌, [], None, length, drop, IfOk, OnOk};
+ghost use Rattle.gz_sequencer.specs.Machine.{at, fed, point_of, resumed, started};
+ghost use Rattle.gz_plain.specs.Readers.{IsRead, news, reading, accepted};
 
-use gz_label::Name;
-use gz_sequencer::SourcePoint;
+use gz_frame::Messages;
+use gz_label::{Name, NoMemory};
+use gz_sequencer::{Sequencer, SourcePoint};
 use std::alloc::Global;
+
+/// What was read on and doesn't count yet.
+#[derive(Drop)]
+pub struct Next {
+    /// How many bytes behind the source's offset were read.
+    pub read: u64,
+    /// The checkpoint after them.
+    pub point: SourcePoint,
+}
 
 /// A source of a shard: a journal, the offset from which it is read, and the checkpoint after what was read.
 #[derive(Drop)]
@@ -19,12 +30,52 @@ pub struct Reader {
     pub read: u64,
     /// The checkpoint after them.
     pub point: SourcePoint,
+    /// What was read on since, until a commit makes it count.
+    pub next: Option<Next>,
+}
+
+/// How many bytes a text has behind an offset.
+fn len_behind(from: u64, text: &[u8]) -> u64
+    ensures { result ≡ length text.now - from }
+{
+    (text.len() as u64).saturating_sub(from)
+}
+
+/// Takes all that the sequencer has released, and puts it behind the messages.
+fn drain(sequencer: &mut Sequencer, messages: &mut Messages) -> Result<(), NoMemory>
+    ensures messages { OnOk result (messages.new ≡ messages.old ++ sequencer.old.released) }
+    ensures rest { OnOk result (sequencer.new ≡ record sequencer.old { released = [] }) }
+{
+    'released: while let Some(message) = sequencer.take_released() {
+        messages.push(message)?;
+    }
+    Ok(())
+}
+
+/// Goes on from a checkpoint to the end of the text: puts the messages that it releases behind the others, and answers
+/// the checkpoint at the end.
+fn resume(
+    alloc: Global,
+    point: &SourcePoint,
+    text: &[u8],
+    messages: &mut Messages,
+) -> Result<SourcePoint, NoMemory>
+    requires within { at (resumed point.now) ≤ length text.now }
+    requires short { length text.now ≤ 2 ^ 62 }
+    ensures messages { OnOk result (messages.new ≡ messages.old ++ (fed (resumed point.now) (drop (at (resumed point.now)) text.now)).released) }
+    ensures point { IfOk result (λ next. next ≡ point_of (fed (resumed point.now) (drop (at (resumed point.now)) text.now))) }
+{
+    let mut sequencer = Sequencer::resume(alloc, point)?;
+    let at = sequencer.at();
+    sequencer.feed(at, &text[at as usize..])?;
+    drain(&mut sequencer, messages)?;
+    sequencer.checkpoint()
 }
 
 impl Reader {
     /// A reader that has read nothing yet. It takes no memory.
     pub fn new(alloc: Global, journal: Name, place: usize, from: u64) -> Reader
-        ensures { result ≡ record { journal = journal; place = place; from = from; read = 0; point = point_of (started from) } }
+        ensures { result ≡ record { journal = journal; place = place; from = from; read = 0; point = point_of (started from); next = None } }
     {
         Reader {
             journal,
@@ -32,6 +83,58 @@ impl Reader {
             from,
             read: 0,
             point: SourcePoint::new(alloc, from),
+            next: None,
+        }
+    }
+
+    /// Reads what is new of the journal's text, and puts the messages that it releases behind the others. What was read
+    /// counts when it is accepted, and else is read again. Time goes with what is new, and with the lines from the first
+    /// message on that waits.
+    pub fn read_on(
+        self,
+        alloc: Global,
+        text: &[u8],
+        messages: &mut Messages,
+    ) -> Result<Reader, NoMemory>
+        requires read { IsRead self text.now }
+        requires short { length text.now ≤ 2 ^ 62 }
+        ensures reader { IfOk result (λ reader. reader ≡ reading text.now self) }
+        ensures messages { OnOk result (messages.new ≡ messages.old ++ news self text.now) }
+    {
+        let read = len_behind(self.from, text);
+        if read <= self.read {
+            return Ok(Reader { next: None, ..self });
+        }
+        let point = resume(alloc, &self.point, text, messages)?;
+        Ok(Reader {
+            next: Some(Next { read, point }),
+            ..self
+        })
+    }
+
+    /// What was read counts from now on.
+    pub fn accept(self) -> Reader
+        ensures { result ≡ accepted self }
+    {
+        let Reader {
+            journal,
+            place,
+            from,
+            read,
+            point,
+            next,
+        } = self;
+        let (read, point) = match next {
+            None => (read, point),
+            Some(next) => (next.read, next.point),
+        };
+        Reader {
+            journal,
+            place,
+            from,
+            read,
+            point,
+            next: None,
         }
     }
 }
