@@ -7,10 +7,12 @@ pub mod Folds
 pub mod Kept
 pub mod Produced
 pub mod Batches
+pub mod Places
 pub mod Growth
 pub mod Longer
 pub mod Takes
 pub mod Reading
+pub mod Running
 pub mod Lines
 pub mod Writes
 pub mod Steps

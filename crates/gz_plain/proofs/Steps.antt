@@ -23,8 +23,9 @@ use Rattle.gz_plain.proofs.Lawful.{IsMessage, parts_messages}
 use Rattle.gz_plain.proofs.Produced.{Each}
 use Rattle.gz_plain.proofs.Written.{joined_more}
 use Rattle.gz_plain.proofs.Growth.{Grow}
+use Rattle.gz_plain.specs.Running.{AllUpto}
 use Rattle.gz_plain.proofs.Longer.{grow_longer}
-use Rattle.gz_plain.proofs.Takes.{AllTaken, all_later, all_more, AllUpto, upto_ends, all_upto_more, all_upto_later, order_later, orders_more, reads_fronts, AllShaped, all_shaped_more, shaped_ends}
+use Rattle.gz_plain.proofs.Takes.{AllTaken, all_later, all_more, upto_ends, all_upto_more, all_upto_later, order_later, orders_more, reads_fronts, AllShaped, all_shaped_more, shaped_ends}
 use Rattle.gz_plain.proofs.Batches.{clock_after, clock_more}
 use Rattle.gz_plain.specs.Runs.{Distinct, ArePresent, IsLine}
 use Rattle.gz_plain.proofs.Writes.{Holds, holds_written, holds_foreign, grow_written, AllForeign, foreign_grow, accept_all}

@@ -9,6 +9,7 @@ use Rattle.gz_plain.specs.Plain.{messages_of, part, order_from, last_from}
 use Rattle.gz_plain.specs.ExactlyOnce.{NeverFall}
 use Rattle.gz_plain.specs.Journals.{Journal}
 use Rattle.gz_plain.specs.Sources.{Source, end_of, committed, froms_of, ends_of, all_committed, parts, order_of, last_of}
+use Rattle.gz_plain.specs.Running.{Upto, AllUpto}
 use Rattle.gz_plain.specs.Promise.{first_of, rest_of, firsts, rests, ReadsFronts, ReadsEach}
 use Rattle.gz_plain.proofs.Parts.{Within, within_two, within_wider, part_inside, part_before, part_after, part_two, order_same, order_more, last_more, never_fall_more, last_above, messages_two}
 use Rattle.gz_plain.proofs.Growth.{Later, committed_within}
@@ -115,16 +116,6 @@ all_more js (s ∷ ss) commits t =
     )
 
 -- ---- the read order
-
--- each offset is at or before the end of its source
-abbrev pub Upto : List Journal → List ℕ → List Source → Type 0
-Upto js [] ss = ⊤
-Upto js (to ∷ tos) [] = ⊤
-Upto js (to ∷ tos) (s ∷ ss) = (to ≤ end_of js s) × Upto js tos ss
-
-abbrev pub AllUpto : List Journal → List (List ℕ) → List Source → Type 0
-AllUpto js [] ss = ⊤
-AllUpto js (tos ∷ commits) ss = Upto js tos ss × AllUpto js commits ss
 
 upto_later : (js new : List Journal) (tos : List ℕ) (ss : List Source) → Longer js new → Upto js tos ss → Upto new tos ss
 upto_later js new [] ss longer u = tt

@@ -1,11 +1,10 @@
 -- What a shard keeps of a source: the checkpoint after what it has read of it; and what reading on gives.
-use Rattle.std.specs.Prelude.{◌≡◌, ◌≤◌, ◌+◌, ◌^◌, ℕ, List, [], ◌∷◌, ◌++◌, length, take, drop, map, flat_map, Option, Some, None, nat_lt, if◌then◌else◌, ⊤}
+use Rattle.std.specs.Prelude.{◌≡◌, ◌≤◌, ◌<◌, ◌+◌, ◌^◌, ℕ, List, [], ◌∷◌, ◌++◌, length, take, drop, map, flat_map, Option, Some, None, nat_lt, if◌then◌else◌, ⊤}
 use Rattle.gz_frame.specs.Messages.{Message}
 use Rattle.gz_sequencer.specs.Committed.{committed}
 use Rattle.gz_sequencer.specs.Machine.{Point, started, fed, point_of}
 use Rattle.gz_plain.specs.Journals.{Journal, text_of, place_of}
 use Rattle.gz_plain.specs.Plain.{part}
-use Rattle.gz_plain.specs.Promise.{first_of, rest_of}
 use Rattle.gz_plain.specs.declared.reader.Next.{Next}
 use Rattle.gz_plain.specs.declared.reader.Reader.{Reader}
 
@@ -59,3 +58,8 @@ end_of_reader r = r.from + r.read
 abbrev pub AreRead : List Journal → List Reader → Type 0
 AreRead js [] = ⊤
 AreRead js (r ∷ rs) = ((r.from ≤ 2 ^ 62) × (r.place ≡ place_of r.journal js) × IsRead r (text_for js r)) × AreRead js rs
+
+-- the offsets up to which they have read are numbers of 64 bits
+abbrev pub HaveRoom : List Reader → Type 0
+HaveRoom [] = ⊤
+HaveRoom (r ∷ rs) = (end_of_reader r < 2 ^ 64) × HaveRoom rs

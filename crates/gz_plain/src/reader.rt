@@ -1,12 +1,14 @@
 //! What a shard reads of a source.
-ghost use Rattle.std.specs.Prelude.{◌≡◌, ◌≤◌, ◌^◌, ◌-◌, ◌++◌, [], None, length, drop, IfOk, OnOk};
+ghost use Rattle.std.specs.Prelude.{◌≡◌, ◌≤◌, ◌^◌, ◌-◌, ◌++◌, [], None, length, drop, map, IfOk, OnOk};
 ghost use Rattle.gz_sequencer.specs.Machine.{at, fed, point_of, resumed, started};
-ghost use Rattle.gz_plain.specs.Readers.{IsRead, news, reading, accepted};
+ghost use Rattle.gz_plain.specs.Readers.{AreRead, IsRead, accepted, accepted_all, all_news, end_of_reader, news, reading, reading_all, HaveRoom};
 
+use crate::journals::Journals;
 use gz_frame::Messages;
 use gz_label::{Name, NoMemory};
 use gz_sequencer::{Sequencer, SourcePoint};
 use std::alloc::Global;
+use std::marker::Model;
 
 /// What was read on and doesn't count yet.
 #[derive(Drop)]
@@ -136,5 +138,81 @@ impl Reader {
             point,
             next: None,
         }
+    }
+}
+
+/// Readers, which a contract sees as their list.
+#[derive(Drop)]
+pub struct Readers {
+    readers: Vec<Reader>,
+}
+
+impl Model for Readers {
+    ghost use Rattle.std.specs.Prelude.{List};
+    ghost use Rattle.gz_plain.specs.declared.reader.Reader.{Reader};
+
+    ghost Value = { List Reader };
+
+    ghost view = { λ a. a.readers.items };
+}
+
+impl Readers {
+    /// The same readers. It takes no memory.
+    pub fn of(readers: Vec<Reader>) -> Readers
+        ensures { result ≡ readers.items }
+    {
+        Readers { readers }
+    }
+
+    /// The readers. It takes no memory.
+    pub fn as_slice(&self) -> &[Reader]
+        ensures { result.now ≡ self.now }
+    {
+        self.readers.as_slice()
+    }
+
+    /// Each reader reads what is new of its journal, and the messages that this releases go behind the others, source by
+    /// source.
+    pub fn read_on(
+        self,
+        alloc: Global,
+        journals: &Journals,
+        messages: &mut Messages,
+    ) -> Result<Readers, NoMemory>
+        requires { AreRead journals.now self }
+        ensures readers { IfOk result (λ readers. readers ≡ reading_all journals.now self) }
+        ensures messages { OnOk result (messages.new ≡ messages.old ++ all_news journals.now self) }
+        ensures room { IfOk result (λ readers. HaveRoom (accepted_all readers)) }
+    {
+        let mut readers = Vec::new(alloc);
+        for reader in self.readers {
+            let text = journals.text_at(reader.place);
+            let reader = reader.read_on(alloc, text, messages)?;
+            readers.push(reader)?;
+        }
+        Ok(Readers { readers })
+    }
+
+    /// What was read counts from now on.
+    pub fn accept(self, alloc: Global) -> Result<Readers, NoMemory>
+        ensures { IfOk result (λ readers. readers ≡ accepted_all self) }
+    {
+        let mut readers = Vec::new(alloc);
+        for reader in self.readers {
+            readers.push(reader.accept())?;
+        }
+        Ok(Readers { readers })
+    }
+
+    /// The offsets up to which the readers have read.
+    pub fn ends(&self, alloc: Global) -> Result<Vec<u64>, NoMemory>
+        requires { HaveRoom self.now }
+        ensures { IfOk result (λ ends. ends.items ≡ map end_of_reader self.now) }
+    {
+        let mut ends = Vec::new(alloc);
+        for reader in &self.readers {
+            ends.push(reader.from + reader.read)?;
+        }
+        Ok(ends)
     }
 }

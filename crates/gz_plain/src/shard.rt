@@ -1,6 +1,6 @@
 //! A shard.
 
-use crate::reader::Reader;
+use crate::reader::Readers;
 use crate::writer::Writer;
 use gz_app::{AppKind, State};
 use gz_uuid::Producer;
@@ -26,7 +26,7 @@ pub struct Shard {
     /// The producer of its lines, with the last clock.
     pub producer: Producer,
     /// A reader for each source.
-    pub readers: Vec<Reader>,
+    pub readers: Readers,
     /// A writer for each output.
     pub writers: Vec<Writer>,
     /// Its application.

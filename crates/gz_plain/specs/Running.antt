@@ -1,0 +1,50 @@
+-- What shards keep of their sources and outputs, as the program has it.
+use Rattle.std.specs.Prelude.{◌≡◌, ◌≤◌, ◌+◌, ℕ, List, [], ◌∷◌, length, take, ⊤}
+use Rattle.gz_frame.specs.Release.{Release}
+use Rattle.gz_sequencer.specs.Committed.{committed}
+use Rattle.gz_plain.specs.Journals.{Journal}
+use Rattle.gz_plain.specs.Places.{ArePlaced}
+use Rattle.gz_plain.specs.Readers.{AreRead, text_behind, text_for}
+use Rattle.gz_plain.specs.Seen.{shard_of}
+use Rattle.gz_plain.specs.Shards.{read_order, last_offsets}
+use Rattle.gz_plain.specs.Sources.{Source, end_of}
+use Rattle.gz_plain.specs.declared.reader.Reader.{Reader}
+use Rattle.gz_plain.specs.declared.shard.Shard.{Shard}
+
+-- each offset is at or before the end of its source
+abbrev pub Upto : List Journal → List ℕ → List Source → Type 0
+Upto js [] ss = ⊤
+Upto js (to ∷ tos) [] = ⊤
+Upto js (to ∷ tos) (s ∷ ss) = (to ≤ end_of js s) × Upto js tos ss
+
+abbrev pub AllUpto : List Journal → List (List ℕ) → List Source → Type 0
+AllUpto js [] ss = ⊤
+AllUpto js (tos ∷ commits) ss = Upto js tos ss × AllUpto js commits ss
+
+-- the lines that released these end at or before an offset
+abbrev pub AllEndBy : ℕ → List Release → Type 0
+AllEndBy to [] = ⊤
+AllEndBy to (r ∷ rs) = (r.end ≤ to) × AllEndBy to rs
+
+-- Of what was read, all that was released was released up to the offset of the last commit.
+pub record IsTaken (offset : ℕ) (r : Reader) (text : List ℕ) : Type 0 where
+  pub below : offset ≤ r.from + r.read
+  pub ended : AllEndBy offset (committed r.from (take r.read (text_behind r text)))
+
+abbrev pub AreTaken : List Journal → List ℕ → List Reader → Type 0
+AreTaken js [] [] = ⊤
+AreTaken js [] (r ∷ rs) = ⊥
+AreTaken js (o ∷ os) [] = ⊥
+AreTaken js (o ∷ os) (r ∷ rs) = IsTaken o r (text_for js r) × AreTaken js os rs
+
+-- what is kept of a shard fits the journals
+pub record IsKept (js : List Journal) (s : Shard) : Type 0 where
+  pub readers : AreRead js s.readers
+  pub taken : AreTaken js (last_offsets (shard_of s)) s.readers
+  pub upto : AllUpto js s.commits.items (shard_of s).sources
+  pub writers : ArePlaced js s.writers.items
+  pub count : s.messages ≡ length (read_order js (shard_of s))
+
+abbrev pub AllKept : List Journal → List Shard → Type 0
+AllKept js [] = ⊤
+AllKept js (s ∷ ss) = IsKept js s × AllKept js ss
