@@ -14,3 +14,4 @@ pub mod Readers
 pub mod Seen
 pub mod Cluster
 pub mod Reports
+pub mod Places
