@@ -1,7 +1,7 @@
 -- Journals by their places, and the texts that a commit puts behind them.
 use Rattle.std.proofs.Common.{◌≡◌, ℕ, zero, suc, ◌+◌, ◌<◌, ◌≤◌, ◌==◌, List, [], ◌∷◌, ◌++◌, length, map, get_or, set, drop, replicate, refl, ap, sym, ◌∙◌, append_assoc, Bool, true, false, cond, arith}
 use Rattle.std.proofs.lemmas.Bool.{eqb-true, eqb-false}
-use Rattle.std.proofs.lemmas.List.{append-nil, drop_more, length-replicate}
+use Rattle.std.proofs.lemmas.List.{append-nil, drop_more, drop_all, length-map, length-replicate}
 use Rattle.std.proofs.lemmas.List.Elements.{filter-append}
 use Rattle.std.proofs.lemmas.List.Concat.{flat_map-append}
 use Rattle.std.proofs.lemmas.Slice.Eq.{bytes_eq-Decides}
@@ -12,7 +12,7 @@ use Rattle.gz_app.specs.Applications.{Output}
 use Rattle.gz_plain.specs.Journals.{Journal, text_of, appended, place_of, text_at, appended_at}
 use Rattle.gz_plain.specs.Order.{Apart}
 use Rattle.gz_plain.specs.Places.{names_of, places_of, ArePlaced, with_lines, ended, all_appended}
-use Rattle.gz_plain.specs.Plain.{ack_at, lines_from}
+use Rattle.gz_plain.specs.Plain.{lines_from}
 use Rattle.gz_plain.specs.Runs.{Distinct}
 use Rattle.gz_plain.specs.Seen.{name_of}
 use Rattle.gz_plain.specs.Shards.{choice, lines_to, closed, text_of_lines, written_to}
@@ -85,6 +85,14 @@ name_first bytes j false = refl
 pub names_stay : (name bytes : List ℕ) (js : List Journal) → names_of (appended name bytes js) ≡ names_of js
 names_stay name bytes [] = refl
 names_stay name bytes (j ∷ js) = rw (name_first bytes j (bytes_eq j.name name), names_stay name bytes js) refl
+
+pub names_stay_at : (i : ℕ) (bytes : List ℕ) (js : List Journal) → names_of (appended_at i bytes js) ≡ names_of js
+names_stay_at i bytes [] = refl
+names_stay_at zero bytes (j ∷ js) = refl
+names_stay_at (suc i) bytes (j ∷ js) = ap (λ (names : List (List ℕ)). j.name ∷ names) (names_stay_at i bytes js)
+
+pub distinct_stay_at : (i : ℕ) (bytes : List ℕ) (js : List Journal) → Distinct (names_of js) → Distinct (names_of (appended_at i bytes js))
+distinct_stay_at i bytes js d = rw (names_stay_at i bytes js) d
 
 -- the places stay
 pub place_stays : (name bytes other : List ℕ) (js : List Journal) → place_of other (appended name bytes js) ≡ place_of other js
@@ -166,6 +174,14 @@ pub lines_turn : (count : ℕ) (producer : List ℕ) (last i : ℕ) (os : List O
 lines_turn count producer last i os o m all texts new within read is long put before =
     rw (put, long, is) (message_turn count producer last i os o texts within read ∙ before)
 
+-- all outputs are put
+pub lines_end : (count : ℕ) (producer : List ℕ) (last i : ℕ) (os : List Output) (texts all : List (List ℕ)) → length os ≤ i
+    → with_lines count 0 (lines_from producer (last + i) (drop i os)) texts ≡ all → texts ≡ all
+lines_end count producer last i os texts all end is =
+    sym (with_lines_none count 0 texts)
+    ∙ ap (λ (rest : List Output). with_lines count 0 (lines_from producer (last + i) rest) texts) (sym (drop_all i os end))
+    ∙ is
+
 -- ---- what a commit writes
 
 ended_line : (ack m : Message) (ms : List Message) (line : List ℕ) → 0 < length line → ended (line_of ack) (line ++ text_of_lines ms) ≡ (line ++ text_of_lines ms) ++ line_of ack
@@ -180,6 +196,11 @@ ended_is ack (m ∷ ms) =
     ∙ ap (λ (back : List ℕ). text_of_lines (m ∷ ms) ++ back) (sym (append-nil (line_of ack)))
     ∙ sym (text_two (m ∷ ms) (ack ∷ []))
 
+-- there is a text for each writer
+pub length_texts : (count place n : ℕ) (lines : List Message) (line : List ℕ) → length (map (ended line) (with_lines count place lines (replicate n []))) ≡ n
+length_texts count place n lines line =
+    length-map (with_lines count place lines (replicate n [])) (ended line) ∙ length_with_lines count place lines (replicate n []) ∙ length-replicate n []
+
 -- the texts of a commit, behind the journals at the writers' places
 pub written_places : (count place : ℕ) (lines : List Message) (ack : Message) (ws : List Writer) (js : List Journal) → Distinct (names_of js) → ArePlaced js ws
     → all_appended (places_of ws) (map (ended (line_of ack)) (with_lines count place lines (replicate (length ws) []))) js ≡ written_to count place lines ack (map name_of ws) js
@@ -192,12 +213,26 @@ written_places count place lines ack (w ∷ ws) js d p =
     ap (λ (new : List Journal). all_appended (places_of ws) rest new) same
     ∙ written_places count (place + 1) lines ack ws (appended w.journal bytes js) (distinct_stay w.journal bytes js d) (placed_stay w.journal bytes js ws p.1)
 
--- the texts are empty, then have their lines behind them, then the acknowledgement, and go behind the journals
-pub written_all : (producer : List ℕ) (last : ℕ) (os : List Output) (ws : List Writer) (js new : List Journal) (empty lines ends : List (List ℕ)) (ack : Message)
-    → Distinct (names_of js) → ArePlaced js ws
-    → empty ≡ replicate (length ws) [] → lines ≡ with_lines (length empty) 0 (lines_from producer last os) empty
-    → ack ≡ ack_at producer (last + length os + 1) → ends ≡ map (ended (line_of ack)) lines → new ≡ all_appended (places_of ws) ends js
-    → new ≡ written_to (length ws) 0 (lines_from producer last os) (ack_at producer (last + length os + 1)) (map name_of ws) js
-written_all producer last os ws js new empty lines ends ack d p none put is behind written =
-    let long : length empty ≡ length ws = ap (λ (texts : List (List ℕ)). length texts) none ∙ length-replicate (length ws) [] in
-    rw (written, behind, put, long, none, is) (written_places (length ws) 0 (lines_from producer last os) (ack_at producer (last + length os + 1)) ws js d p)
+-- ---- what stays in a commit
+
+-- the names stay
+pub names_written : (count place : ℕ) (lines : List Message) (ack : Message) (names : List (List ℕ)) (js : List Journal) → names_of (written_to count place lines ack names js) ≡ names_of js
+names_written count place lines ack [] js = refl
+names_written count place lines ack (n ∷ names) js =
+    let bytes : List ℕ = text_of_lines (closed ack (lines_to count place lines)) in
+    names_written count (place + 1) lines ack names (appended n bytes js) ∙ names_stay n bytes js
+
+-- the places stay
+pub place_written : (count place : ℕ) (lines : List Message) (ack : Message) (names : List (List ℕ)) (js : List Journal) (other : List ℕ)
+    → place_of other (written_to count place lines ack names js) ≡ place_of other js
+place_written count place lines ack [] js other = refl
+place_written count place lines ack (n ∷ names) js other =
+    let bytes : List ℕ = text_of_lines (closed ack (lines_to count place lines)) in
+    place_written count (place + 1) lines ack names (appended n bytes js) other ∙ place_stays n bytes other js
+
+-- writers stay at the places of their journals
+pub placed_written : (count place : ℕ) (lines : List Message) (ack : Message) (names : List (List ℕ)) (js : List Journal) (ws : List Writer) → ArePlaced js ws
+    → ArePlaced (written_to count place lines ack names js) ws
+placed_written count place lines ack names js [] p = tt
+placed_written count place lines ack names js (w ∷ ws) p =
+    (p.0 ∙ sym (place_written count place lines ack names js w.journal), placed_written count place lines ack names js ws p.1)

@@ -209,7 +209,7 @@ last_split from froms (c ∷ commits) s ss a =
     ap (λ (tos : List ℕ). last_of tos commits) (first_shaped from froms c s ss a.0)
     ∙ last_split (first_of c) (rest_of c) commits s ss a.1
 
-append_none : (xs ys : List Message) → xs ++ ys ≡ [] → (xs ≡ []) × (ys ≡ [])
+pub append_none : (xs ys : List Message) → xs ++ ys ≡ [] → (xs ≡ []) × (ys ≡ [])
 append_none [] ys none = (refl, none)
 append_none (x ∷ xs) ys none = cc
 

@@ -39,11 +39,15 @@ pub struct Cluster {
 
 impl Model for Cluster {
     ghost use Rattle.gz_plain.specs.Shards.{World};
+    ghost use Rattle.gz_plain.specs.Places.{names_of};
+    ghost use Rattle.gz_plain.specs.Runs.{Distinct};
     ghost use Rattle.gz_plain.specs.Seen.{shards_of};
 
     ghost Value = { World };
 
     ghost view = { λ a. record { journals = a.journals; shards = shards_of a.shards.items } };
+
+    ghost invariant = { λ a. Distinct (names_of a.journals) };
 }
 
 impl Cluster {
@@ -77,11 +81,14 @@ impl Cluster {
     }
 
     /// Puts the bytes behind the text of the journal of this name, if there is one. After NoMemory nothing has changed.
+    #[tactic(auto, using(crate::proofs::Places::appended_is, crate::proofs::Places::distinct_stay_at))]
     pub fn append(&mut self, name: &[u8], bytes: &[u8]) -> Result<(), NoMemory>
         ensures ok { OnOk result (self.new ≡ record self.old { journals = appended name.now bytes.now self.old.journals }) }
         ensures err { OnErr result (self.new ≡ self.old) }
     {
-        Err(NoMemory)
+        let place = self.journals.place_of(name);
+        self.journals.append_at(place, bytes)?;
+        Ok(())
     }
 
     /// Everything that is due happens: the shards step in turn, again and again until nothing more is released. After
