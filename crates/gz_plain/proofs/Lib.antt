@@ -21,3 +21,4 @@ pub mod Rounds
 pub mod Settles
 pub mod Starts
 pub mod Promises
+pub mod Stepping

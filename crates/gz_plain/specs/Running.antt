@@ -1,10 +1,12 @@
 -- What shards keep of their sources and outputs, as the program has it.
-use Rattle.std.specs.Prelude.{◌≡◌, ◌≤◌, ◌+◌, ℕ, List, [], ◌∷◌, length, take, ⊤}
+use Rattle.std.specs.Prelude.{◌≡◌, ◌≤◌, ◌+◌, ℕ, List, [], ◌∷◌, ◌++◌, length, take, map, ⊤}
+use Rattle.gz_frame.specs.Messages.{Message}
 use Rattle.gz_frame.specs.Release.{Release}
 use Rattle.gz_sequencer.specs.Committed.{committed}
+use Rattle.gz_plain.specs.Applications.{folded, put_out}
 use Rattle.gz_plain.specs.Journals.{Journal}
 use Rattle.gz_plain.specs.Places.{ArePlaced}
-use Rattle.gz_plain.specs.Readers.{AreRead, text_behind, text_for}
+use Rattle.gz_plain.specs.Readers.{AreRead, accepted_all, end_of_reader, reading_all, text_behind, text_for}
 use Rattle.gz_plain.specs.Seen.{shard_of}
 use Rattle.gz_plain.specs.Shards.{read_order, last_offsets}
 use Rattle.gz_plain.specs.Sources.{Source, end_of}
@@ -48,3 +50,22 @@ pub record IsKept (js : List Journal) (s : Shard) : Type 0 where
 abbrev pub AllKept : List Journal → List Shard → Type 0
 AllKept js [] = ⊤
 AllKept js (s ∷ ss) = IsKept js s × AllKept js ss
+
+-- a shard that has read on
+abbrev pub read_further : List Journal → Shard → Shard
+read_further js s = record s { readers = reading_all js s.readers }
+
+-- what was read counts
+abbrev pub read_up : Shard → Shard
+read_up s = record s { readers = accepted_all s.readers }
+
+-- the shard after a commit of messages, which its readers have read
+pub record IsCommitted (s : Shard) (ms : List Message) (new : Shard) : Type 0 where
+  pub producer : new.producer ≡ record s.producer { last = s.producer.last + length (put_out s.app s.store ms) + 1 }
+  pub readers : new.readers ≡ accepted_all s.readers
+  pub writers : new.writers.items ≡ s.writers.items
+  pub app : new.app ≡ s.app
+  pub is_disabled : new.is_disabled ≡ s.is_disabled
+  pub commits : new.commits.items ≡ s.commits.items ++ map end_of_reader (accepted_all s.readers) ∷ []
+  pub messages : new.messages ≡ s.messages + length ms
+  pub store : new.store ≡ folded s.app s.store ms
