@@ -13,7 +13,7 @@ use Rattle.gz_plain.specs.Journals.{Journal, text_of, appended, place_of, text_a
 use Rattle.gz_plain.specs.Order.{Apart}
 use Rattle.gz_plain.specs.Places.{names_of, places_of, ArePlaced, with_lines, ended, all_appended}
 use Rattle.gz_plain.specs.Plain.{lines_from}
-use Rattle.gz_plain.specs.Runs.{Distinct}
+use Rattle.gz_plain.specs.Runs.{Distinct, all_empty}
 use Rattle.gz_plain.specs.Seen.{name_of}
 use Rattle.gz_plain.specs.Shards.{choice, lines_to, closed, text_of_lines, written_to}
 use Rattle.gz_plain.specs.declared.writer.Writer.{Writer}
@@ -86,22 +86,31 @@ pub names_stay : (name bytes : List ℕ) (js : List Journal) → names_of (appen
 names_stay name bytes [] = refl
 names_stay name bytes (j ∷ js) = rw (name_first bytes j (bytes_eq j.name name), names_stay name bytes js) refl
 
+-- an append at a place keeps the names too
 pub names_stay_at : (i : ℕ) (bytes : List ℕ) (js : List Journal) → names_of (appended_at i bytes js) ≡ names_of js
 names_stay_at i bytes [] = refl
 names_stay_at zero bytes (j ∷ js) = refl
 names_stay_at (suc i) bytes (j ∷ js) = ap (λ (names : List (List ℕ)). j.name ∷ names) (names_stay_at i bytes js)
 
+-- so each is still named once
 pub distinct_stay_at : (i : ℕ) (bytes : List ℕ) (js : List Journal) → Distinct (names_of js) → Distinct (names_of (appended_at i bytes js))
 distinct_stay_at i bytes js d = rw (names_stay_at i bytes js) d
+
+-- journals that begin have the names that they were given
+pub names_empty : (names : List (List ℕ)) → names_of (all_empty names) ≡ names
+names_empty [] = refl
+names_empty (n ∷ names) = ap (λ (rest : List (List ℕ)). n ∷ rest) (names_empty names)
 
 -- the places stay
 pub place_stays : (name bytes other : List ℕ) (js : List Journal) → place_of other (appended name bytes js) ≡ place_of other js
 place_stays name bytes other [] = refl
 place_stays name bytes other (j ∷ js) = rw (name_first bytes j (bytes_eq j.name name), place_stays name bytes other js) refl
 
+-- each is still named once
 pub distinct_stay : (name bytes : List ℕ) (js : List Journal) → Distinct (names_of js) → Distinct (names_of (appended name bytes js))
 distinct_stay name bytes js d = rw (names_stay name bytes js) d
 
+-- writers stay at the places of their journals
 pub placed_stay : (name bytes : List ℕ) (js : List Journal) (ws : List Writer) → ArePlaced js ws → ArePlaced (appended name bytes js) ws
 placed_stay name bytes js [] p = tt
 placed_stay name bytes js (w ∷ ws) p = (p.0 ∙ sym (place_stays name bytes w.journal js), placed_stay name bytes js ws p.1)
@@ -127,6 +136,7 @@ pub with_lines_none : (count place : ℕ) (texts : List (List ℕ)) → with_lin
 with_lines_none count place [] = refl
 with_lines_none count place (t ∷ texts) = rw (append-nil t, with_lines_none count (place + 1) texts) refl
 
+-- there are as many texts
 pub length_with_lines : (count place : ℕ) (lines : List Message) (texts : List (List ℕ)) → length (with_lines count place lines texts) ≡ length texts
 length_with_lines count place lines [] = refl
 length_with_lines count place lines (t ∷ texts) = ap (λ (n : ℕ). suc n) (length_with_lines count (place + 1) lines texts)

@@ -91,6 +91,7 @@ fn place_among(journals: &[Journal], name: &[u8]) -> usize
     journals.len()
 }
 
+/// The text at this place, and none where there is no such place.
 #[tactic(auto, using(crate::proofs::Places::text_at_read, crate::proofs::Places::text_at_past))]
 fn text_among(journals: &[Journal], place: usize) -> &[u8]
     ensures value { result.now ≡ text_at place journals.now }
@@ -102,6 +103,7 @@ fn text_among(journals: &[Journal], place: usize) -> &[u8]
     }
 }
 
+/// Puts the bytes behind the text at this place, if there is one. After NoMemory nothing has changed.
 #[tactic(auto, using(crate::proofs::Places::appended_at_set, crate::proofs::Places::appended_at_past))]
 fn append_among(journals: &mut [Journal], place: usize, bytes: &[u8]) -> Result<(), NoMemory>
     ensures ok { OnOk result (journals.new ≡ appended_at place bytes.now journals.old) }

@@ -8,6 +8,8 @@ mod reader;
 mod report;
 mod shard;
 mod writer;
+#[cfg(test)]
+mod writer_tests;
 
 pub use cluster::{Cluster, Definition, Source, count_committed};
 pub use journals::{Journal, Journals};

@@ -49,7 +49,8 @@ fn next_message(
     requires known_flags { flags ≤ 2 }
     requires short_key { length key.now ≤ 256 }
     requires short_value { length value.now ≤ 4096 }
-    ensures message { IfOk result (λ message. message ≡ record { producer = producer.old.id; clock = producer.old.last + 1; flags = flags; key = key.now; value = value.now }) }
+    ensures message { IfOk result (λ message.
+        message ≡ record { producer = producer.old.id; clock = producer.old.last + 1; flags = flags; key = key.now; value = value.now }) }
     ensures producer { OnOk result (producer.new ≡ record producer.old { last = producer.old.last + 1 }) }
 {
     let clock = match producer.tick(0) {
@@ -87,7 +88,8 @@ fn put_lines(
     texts: &mut [Blob],
 ) -> Result<(), NoMemory>
     requires room { producer.old.last + length outputs.now < 2 ^ 64 }
-    ensures texts { OnOk result (texts.new ≡ with_lines (length texts.old) 0 (lines_from producer.old.id producer.old.last outputs.now) texts.old) }
+    ensures texts { OnOk result (texts.new
+        ≡ with_lines (length texts.old) 0 (lines_from producer.old.id producer.old.last outputs.now) texts.old) }
     ensures producer { OnOk result (producer.new ≡ record producer.old { last = producer.old.last + length outputs.now }) }
 {
     for output in outputs {
@@ -154,7 +156,9 @@ fn texts_of(
     count: usize,
 ) -> Result<Vec<Blob>, NoMemory>
     requires room { producer.old.last + length outputs.now + 1 < 2 ^ 64 }
-    ensures texts { IfOk result (λ texts. texts.items ≡ map (ended (line_of (ack_at producer.old.id (producer.old.last + length outputs.now + 1)))) (with_lines count 0 (lines_from producer.old.id producer.old.last outputs.now) (replicate count []))) }
+    ensures texts { IfOk result (λ texts. texts.items
+        ≡ map (ended (line_of (ack_at producer.old.id (producer.old.last + length outputs.now + 1))))
+        (with_lines count 0 (lines_from producer.old.id producer.old.last outputs.now) (replicate count []))) }
     ensures producer { OnOk result (producer.new ≡ record producer.old { last = producer.old.last + length outputs.now + 1 }) }
 {
     let mut texts = empty_texts(alloc, count)?;
@@ -178,7 +182,9 @@ pub fn write_commit(
     requires room { producer.old.last + length outputs.now + 1 < 2 ^ 64 }
     requires names { Distinct (names_of journals.old) }
     requires places { ArePlaced journals.old writers.now }
-    ensures journals { OnOk result (journals.new ≡ written_to (length writers.now) 0 (lines_from producer.old.id producer.old.last outputs.now) (ack_at producer.old.id (producer.old.last + length outputs.now + 1)) (map name_of writers.now) journals.old) }
+    ensures journals { OnOk result (journals.new
+        ≡ written_to (length writers.now) 0 (lines_from producer.old.id producer.old.last outputs.now)
+        (ack_at producer.old.id (producer.old.last + length outputs.now + 1)) (map name_of writers.now) journals.old) }
     ensures producer { OnOk result (producer.new ≡ record producer.old { last = producer.old.last + length outputs.now + 1 }) }
 {
     let texts = texts_of(alloc, producer, outputs.as_slice(), writers.len())?;
