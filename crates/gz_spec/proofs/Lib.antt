@@ -10,3 +10,8 @@ pub mod LabelsBack
 pub mod Depths
 pub mod SpecsBack
 pub mod Readable
+pub mod Sound
+pub mod Used
+pub mod Ranks
+pub mod Whole
+pub mod Joining

@@ -88,11 +88,11 @@ flag_reached shards m i j = flag_closed (fed_rows shards) m i j ∙ reach_same (
 
 -- ---- paths are found, and what is found is a path
 
-chain : (shards : List ShardSpec) (i k j : ℕ) → Reaches shards i k → Reaches shards k j → Reaches shards i j
+pub chain : (shards : List ShardSpec) (i k j : ℕ) → Reaches shards i k → Reaches shards k j → Reaches shards i j
 chain shards i k j (next _ _ p) r = through i k j p r
 chain shards i k j (through _ h _ p q) r = through i h j p (chain shards h k j q r)
 
-sound : (shards : List ShardSpec) (m i j : ℕ) → reach (feeds_at shards) m i j ≡ true → Reaches shards i j
+pub sound : (shards : List ShardSpec) (m i j : ℕ) → reach (feeds_at shards) m i j ≡ true → Reaches shards i j
 sound shards zero i j h = next i j h
 sound shards (suc m) i j h =
     let e = reach (feeds_at shards) m in
@@ -153,11 +153,11 @@ first_place : (shards : List ShardSpec) (i : ℕ) (s t : Option ShardSpec) → s
 first_place shards i None t is h = absurd (cc)
 first_place shards i (Some s) t is h = slice_get_within shards i s (sym is)
 
-begins_within : (shards : List ShardSpec) (i j : ℕ) → Reaches shards i j → i < length shards
+pub begins_within : (shards : List ShardSpec) (i j : ℕ) → Reaches shards i j → i < length shards
 begins_within shards i j (next _ _ p) = first_place shards i (slice_get shards i) (slice_get shards j) refl p
 begins_within shards i j (through _ k _ p q) = first_place shards i (slice_get shards i) (slice_get shards k) refl p
 
-complete : (shards : List ShardSpec) (i j : ℕ) → Reaches shards i j → reach (feeds_at shards) (length shards) i j ≡ true
+pub complete : (shards : List ShardSpec) (i j : ℕ) → Reaches shards i j → reach (feeds_at shards) (length shards) i j ≡ true
 complete shards i j (next _ _ p) = grows (feeds_at shards) (length shards) i j p
 complete shards i j (through _ k _ p q) =
     joined (feeds_at shards) (length shards) k (second_is shards i k (slice_get shards i) (slice_get shards k) refl p) i j
@@ -165,7 +165,7 @@ complete shards i j (through _ k _ p q) =
 
 -- ---- the first
 
-different : (b : Bool) → b ≡ true → b ≡ false → ⊥
+pub different : (b : Bool) → b ≡ true → b ≡ false → ⊥
 different b t f = cc
 
 none_from : (test : ℕ → Bool) (i c : ℕ) → ((k : ℕ) → i ≤ k → k < i + c → test k ≡ false) → first_from test i c ≡ None
@@ -207,3 +207,26 @@ pub is_told : (shards : List ShardSpec) (rows : List (List Bool)) (found : Optio
     → IsToldFirst (λ i. flag rows i i) (length shards) found → IsToldCycle shards found
 is_told shards rows found is told =
     told_cycle shards found (let P : List (List Bool) → Type 0 = λ r. IsToldFirst (λ i. flag r i i) (length shards) found in subst P is told)
+
+-- ---- that there is none
+
+none_here : (b : Bool) (i : ℕ) (o : Option ℕ) → cond b (Some i) o ≡ None → (b ≡ false) × (o ≡ None)
+none_here true i o none = absurd (cc)
+none_here false i o none = (refl, none)
+
+none_of : (test : ℕ → Bool) (i c k : ℕ) → first_from test i c ≡ None → i ≤ k → k < i + c → test k ≡ false
+none_of test i zero k none above below = absurd (omega arith)
+none_of test i (suc c) k none above below =
+    let here = none_here (test i) i (first_from test (suc i) c) none in
+    elim (cases_order i k) [
+      | inl same ↦ ap test (sym same) ∙ here.0
+      | inr other ↦ elim other [
+        | inl less ↦ none_of test (suc i) c k here.1 less (omega arith)
+        | inr more ↦ absurd (omega arith)
+      ]
+    ]
+
+-- where no first was found, no shard reaches itself
+pub none_reaches : (shards : List ShardSpec) → first_cycle shards ≡ None → (i : ℕ) → Reaches shards i i → ⊥
+none_reaches shards none =
+    told_cycle shards None (λ k below. none_of (λ i. flag (closed (length shards) (fed_rows shards)) i i) 0 (length shards) k none (omega arith) (omega arith))

@@ -1,23 +1,22 @@
 -- What is read is valid.
-use Rattle.std.proofs.Common.{◌≡◌, ℕ, suc, ◌+◌, ◌≤◌, ◌&&◌, ◌^◌, List, [], ◌∷◌, ◌++◌, map, length, refl, sym, ap, subst, ◌∙◌, cond, Bool, true, false, not, nat_le, nat_eq, Result, Ok, Err, Option, Some, None, arith}
-use Rattle.std.specs.Prelude.{codes, option_and_then}
-use Rattle.std.specs.List.{list_all}
+use Rattle.std.proofs.Common.{◌≡◌, ℕ, ◌≤◌, ◌&&◌, List, [], ◌∷◌, length, refl, sym, ap, subst, ◌∙◌, cond, Bool, true, false, nat_le, Result, Ok, Err, Option, Some, None, arith}
+use Rattle.std.specs.Prelude.{codes}
 use Rattle.std.proofs.lemmas.Grind.{common_steps}
-use Rattle.serde_json.specs.Data.{Data, Items, no_items, item}
-use Rattle.serde_json.specs.Find.{get, as_str, as_array, as_number, as_object, as_u64, as_bool}
+use Rattle.serde_json.specs.Data.{Data}
+use Rattle.serde_json.specs.Find.{get, as_number, as_object, as_u64}
 use Rattle.gz_model.specs.Steps.{◌>>=◌}
-use Rattle.gz_label.specs.Labels.{is_label, is_label_set, put_label, with_label, values_of}
+use Rattle.gz_label.specs.Labels.{is_label, is_label_set, put_label, with_label}
 use Rattle.gz_label.specs.Items.{max_labels, limited}
 use Rattle.gz_label.specs.declared.label.Label.{Label}
 use Rattle.gz_label.specs.declared.name.LabelError.{LabelError}
 use Rattle.gz_label.specs.declared.name.LabelError.TheVariants as cause
 use Rattle.gz_label.proofs.Sets.{is_label_set-put}
 use Rattle.gz_spec.specs.declared.error.SpecError.{SpecError}
-use Rattle.gz_spec.specs.declared.error.SpecError.TheVariants.{BadField, BadName, BadNumber, Twice}
+use Rattle.gz_spec.specs.declared.error.SpecError.TheVariants.{BadName, BadNumber}
 use Rattle.gz_spec.specs.declared.journal.JournalSpec.{JournalSpec}
-use Rattle.gz_spec.specs.Paths.{below, at_place}
+use Rattle.gz_spec.specs.Paths.{below}
 use Rattle.gz_spec.specs.Names.{is_journal_name}
-use Rattle.gz_spec.specs.Form.{found, has_only, named, text_at, name_at, name_if, in_range, number_from, number_if, number_or}
+use Rattle.gz_spec.specs.Form.{found, has_only, named, text_at, name_at, in_range, number_from, number_if, number_or}
 use Rattle.gz_spec.specs.Labels.{all_labels, fitting, put_each, labels_in, labels_if, labels_at}
 use Rattle.gz_spec.specs.Journals.{fragment_members, codec_if, fragment_in, fragment_if, fragment_at, journal_members, journal_with, journal_at, default_fragment}
 use Rattle.gz_spec.specs.Valid.{is_between, is_journal}
@@ -25,20 +24,20 @@ use Rattle.gz_spec.specs.Valid.{is_between, is_journal}
 -- ---- steps
 
 -- both steps went well
-step : {A B : Type 0} (r : Result A SpecError) (f : A → Result B SpecError) (b : B) → (r >>= f) ≡ Ok b → (a : A) × (r ≡ Ok a) × (f a ≡ Ok b)
+pub step : {A B : Type 0} (r : Result A SpecError) (f : A → Result B SpecError) (b : B) → (r >>= f) ≡ Ok b → (a : A) × (r ≡ Ok a) × (f a ≡ Ok b)
 step (Ok a) f b is = (a, refl, is)
 step (Err e) f b is = absurd (cc)
 
-same_ok : {A : Type 0} (a b : A) → (let r : Result A SpecError = Ok a in r ≡ Ok b) → a ≡ b
+pub same_ok : {A : Type 0} (a b : A) → (let r : Result A SpecError = Ok a in r ≡ Ok b) → a ≡ b
 same_ok a b is = cc
 
-chosen : {A : Type 0} (t : Bool) (a b : A) (e : SpecError) → (cond t (Ok a) (Err e)) ≡ Ok b → (t ≡ true) × (a ≡ b)
+pub chosen : {A : Type 0} (t : Bool) (a b : A) (e : SpecError) → (cond t (Ok a) (Err e)) ≡ Ok b → (t ≡ true) × (a ≡ b)
 chosen true a b e is = (refl, same_ok a b is)
 chosen false a b e is = absurd (cc)
 
 -- ---- names and numbers
 
-named_good : (is_good : List ℕ → Bool) (path text name : List ℕ) → named is_good path text ≡ Ok name → is_good name ≡ true
+pub named_good : (is_good : List ℕ → Bool) (path text name : List ℕ) → named is_good path text ≡ Ok name → is_good name ≡ true
 named_good is_good path text name is =
     let c = chosen (is_good text) text name (BadName path) is in
     ap is_good (sym c.1) ∙ c.0
@@ -54,7 +53,7 @@ in_range_good least most path (Some m) n is =
     let c = chosen (is_between least most m) m n (BadNumber path) is in
     ap (is_between least most) (sym c.1) ∙ c.0
 
-number_good : (least most : ℕ) (path : List ℕ) (d : Data) (n : ℕ) → number_from least most path d ≡ Ok n → is_between least most n ≡ true
+pub number_good : (least most : ℕ) (path : List ℕ) (d : Data) (n : ℕ) → number_from least most path d ≡ Ok n → is_between least most n ≡ true
 number_good least most path d n is =
     let s = step (found path (as_number d)) (λ v. in_range least most path (as_u64 v)) n is in
     in_range_good least most path (as_u64 s.0) n s.2
@@ -105,7 +104,7 @@ labels_in_good path d ls is =
     let t = step (all_labels path s.0) (λ labels. put_each path [] labels) ls s.2 in
     put_each_good path t.0 [] ls no_labels t.2
 
-labels_good : (path : List ℕ) (o : Option Data) (ls : List Label) → labels_if path o ≡ Ok ls → is_label_set ls ≡ true
+pub labels_good : (path : List ℕ) (o : Option Data) (ls : List Label) → labels_if path o ≡ Ok ls → is_label_set ls ≡ true
 labels_good path None ls is = ap is_label_set (sym (same_ok [] ls is)) ∙ no_labels
 labels_good path (Some d) ls is = labels_in_good path d ls is
 
@@ -131,21 +130,25 @@ four a b c d e f g h = rw (e, f, g, h) refl
 abbrev journal_from : List ℕ → ℕ → List Label → ℕ → JournalSpec
 journal_from name replication labels bytes = record { name = name; replication = replication; labels = labels; fragment_length = bytes }
 
-journal_with_good : (path name : List ℕ) (d : Data) (j : JournalSpec) → is_journal_name name ≡ true → journal_with path name d ≡ Ok j → is_journal j ≡ true
+-- the journal that was read has the name that was given, and all that follows it is good
+pub journal_with_good : (path name : List ℕ) (d : Data) (j : JournalSpec) → is_journal_name name ≡ true → journal_with path name d ≡ Ok j → (is_journal j ≡ true) × (j.name ≡ name)
 unfolding journal_with
 journal_with_good path name d j good is =
     let r = step (number_or 1 1 5 path (codes "replication") d) (λ a. labels_at path d >>= λ b. fragment_at path d >>= λ c. Ok (journal_from name a b c)) j is in
     let l = step (labels_at path d) (λ b. fragment_at path d >>= λ c. Ok (journal_from name r.0 b c)) j r.2 in
     let f = step (fragment_at path d) (λ c. Ok (journal_from name r.0 l.0 c)) j l.2 in
-    ap is_journal (sym (same_ok (journal_from name r.0 l.0 f.0) j f.2))
-    ∙ four (is_journal_name name) (is_between 1 5 r.0) (is_label_set l.0) (is_between 1 1073741824 f.0) good
-    (number_or_good 1 1 5 (below path (codes "replication")) (get (codes "replication") d) r.0 refl r.1)
-    (labels_good (below path (codes "labels")) (get (codes "labels") d) l.0 l.1)
-    (fragment_good (below path (codes "fragment")) (get (codes "fragment") d) f.0 f.1)
+    let P : JournalSpec → Type 0 = λ k. (is_journal k ≡ true) × (k.name ≡ name) in
+    subst P (same_ok (journal_from name r.0 l.0 f.0) j f.2) (
+      four (is_journal_name name) (is_between 1 5 r.0) (is_label_set l.0) (is_between 1 1073741824 f.0) good
+          (number_or_good 1 1 5 (below path (codes "replication")) (get (codes "replication") d) r.0 refl r.1)
+          (labels_good (below path (codes "labels")) (get (codes "labels") d) l.0 l.1)
+          (fragment_good (below path (codes "fragment")) (get (codes "fragment") d) f.0 f.1),
+      refl,
+    )
 
 pub journal_at_good : (path : List ℕ) (d : Data) (j : JournalSpec) → journal_at path d ≡ Ok j → is_journal j ≡ true
 unfolding journal_at
 journal_at_good path d j is =
     let h = step (has_only path journal_members d) (λ _. name_at is_journal_name path (codes "name") d >>= λ name. journal_with path name d) j is in
     let n = step (name_at is_journal_name path (codes "name") d) (λ name. journal_with path name d) j h.2 in
-    journal_with_good path n.0 d j (name_good is_journal_name path (codes "name") n.0 d n.1) n.2
+    (journal_with_good path n.0 d j (name_good is_journal_name path (codes "name") n.0 d n.1) n.2).0

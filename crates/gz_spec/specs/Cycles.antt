@@ -1,6 +1,6 @@
 -- Shards that feed one another.
 use Rattle.std.specs.Prelude.{◌≡◌, ℕ, zero, suc, ◌<◌, ◌||◌, List, [], ◌∷◌, map, length, Option, Some, None, Bool, true, false, IsTrue, if◌then◌else◌, slice_get}
-use Rattle.std.specs.List.{list_any}
+use Rattle.std.specs.List.{list_any, IsAmong}
 use Rattle.std.specs.Str.{bytes_eq}
 use Rattle.gz_spec.specs.Links.{outputs_of}
 use Rattle.gz_spec.specs.declared.shard.ShardSpec.{ShardSpec}
@@ -34,6 +34,11 @@ pub record IsFirstCycle (shards : List ShardSpec) (i : ℕ) : Type 0 where
 abbrev pub IsToldCycle : List ShardSpec → Option ℕ → Type 0
 IsToldCycle shards None = (i : ℕ) → Reaches shards i i → ⊥
 IsToldCycle shards (Some i) = IsFirstCycle shards i
+
+-- Numbers for shards, by their ids, that rise along each path: a shard has a lesser one than each shard that it feeds.
+pub record AreRanked (rank : List ℕ → ℕ) (shards : List ShardSpec) : Type 0 where
+  pub rises : (s t : ShardSpec) → IsAmong shards s → IsAmong shards t → feeds s t ≡ true → rank s.id < rank t.id
+  pub below : (s : ShardSpec) → IsAmong shards s → rank s.id < length shards
 
 -- ---- how it is found
 

@@ -1,5 +1,5 @@
 -- The journals that shards name.
-use Rattle.std.specs.Prelude.{ℕ, ◌+◌, List, [], ◌∷◌, ◌++◌, Option, Some, None, Result, Ok, Err, Bool, true, false, if◌then◌else◌, codes}
+use Rattle.std.specs.Prelude.{ℕ, ◌+◌, List, [], ◌∷◌, ◌++◌, Option, Some, None, Result, Ok, Err, ◌&&◌, Bool, true, false, if◌then◌else◌, codes}
 use Rattle.std.specs.List.{list_all}
 use Rattle.std.specs.Str.{bytes_eq}
 use Rattle.gz_model.specs.Steps.{◌>>=◌}
@@ -89,3 +89,14 @@ shard_linked journals path shard = do
 abbrev pub all_linked : List JournalSpec → ℕ → List ShardSpec → Result (Unit {0}) SpecError
 all_linked journals i [] = Ok tt
 all_linked journals i (s ∷ ss) = shard_linked journals (at_place (codes "shards") i) s >>= λ _. all_linked journals (i + 1) ss
+
+-- ---- shards whose journals are all there
+
+-- Each source can be read, the recovery log is one, and each output is a journal of lines.
+abbrev pub is_linked : List JournalSpec → ShardSpec → Bool
+is_linked journals shard =
+    list_all (λ s. is_readable (held journals s.journal)) shard.sources
+    && (is_log (held journals (log_name shard)) && list_all (λ o. is_lines (held journals o)) (outputs_of shard))
+
+abbrev pub are_linked : List JournalSpec → List ShardSpec → Bool
+are_linked journals shards = list_all (is_linked journals) shards
