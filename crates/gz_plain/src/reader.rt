@@ -44,7 +44,7 @@ fn len_behind(from: u64, text: &[u8]) -> u64
 }
 
 /// Takes all that the sequencer has released, and puts it behind the messages.
-fn drain(sequencer: &mut Sequencer, messages: &mut Messages) -> Result<(), NoMemory>
+pub fn drain(sequencer: &mut Sequencer, messages: &mut Messages) -> Result<(), NoMemory>
     ensures messages { OnOk result (messages.new ≡ messages.old ++ sequencer.old.released) }
     ensures rest { OnOk result (sequencer.new ≡ record sequencer.old { released = [] }) }
 {
