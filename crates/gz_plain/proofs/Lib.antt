@@ -3,8 +3,6 @@ pub mod Committed
 pub mod Written
 pub mod Histories
 pub mod Transactions
-pub mod Folds
-pub mod Kept
 pub mod Produced
 pub mod Batches
 pub mod Places

@@ -1,8 +1,6 @@
-pub mod Application
 pub mod Plain
 pub mod ExactlyOnce
 pub mod Kept
-pub mod Outside
 pub mod Applications
 pub mod Journals
 pub mod Sources
