@@ -103,7 +103,7 @@ abbrev pub Inside : ℕ → ℕ → List Placed → Type 0
 Inside low high [] = ⊤
 Inside low high (p ∷ ps) = ((low < p.end) × (p.end ≤ high)) × Inside low high ps
 
-inside_wider : (from to low high : ℕ) (ps : List Placed) → low ≤ from → to ≤ high → Inside from to ps → Inside low high ps
+pub inside_wider : (from to low high : ℕ) (ps : List Placed) → low ≤ from → to ≤ high → Inside from to ps → Inside low high ps
 inside_wider from to low high [] l h w = tt
 inside_wider from to low high (p ∷ ps) l h w = ((omega (arith, w.0.0), omega (arith, w.0.1)), inside_wider from to low high ps l h w.1)
 
@@ -156,7 +156,7 @@ pub record Later (js new : List Journal) (s : Source) : Type 0 where
 pub committed_within : (js : List Journal) (s : Source) → Within s.from (end_of js s) (committed js s)
 committed_within js s = committed_inside s.from (end_of js s) [] (messages_of s.from (text_from js s)) (text_inside s.from (text_from js s))
 
-later_of : (at : ℕ) (old new more : List ℕ) → new ≡ old ++ more → is_whole old ≡ true
+pub later_of : (at : ℕ) (old new more : List ℕ) → new ≡ old ++ more → is_whole old ≡ true
     → sequencer.committed at new ≡ sequencer.committed at old ++ committed_after (messages_alone (messages_of at old)) (messages_of (at + length old) more)
 later_of at old new more joined whole =
     ap (λ (t : List ℕ). sequencer.committed at t) joined

@@ -7,8 +7,12 @@ pub mod Folds
 pub mod Kept
 pub mod Produced
 pub mod Batches
+pub mod Places
 pub mod Growth
+pub mod Longer
 pub mod Takes
+pub mod Reading
+pub mod Running
 pub mod Lines
 pub mod Writes
 pub mod Steps
@@ -17,3 +21,6 @@ pub mod Rounds
 pub mod Settles
 pub mod Starts
 pub mod Promises
+pub mod Stepping
+pub mod Settling
+pub mod Beginning

@@ -23,7 +23,9 @@ use Rattle.gz_plain.proofs.Lawful.{IsMessage, parts_messages}
 use Rattle.gz_plain.proofs.Produced.{Each}
 use Rattle.gz_plain.proofs.Written.{joined_more}
 use Rattle.gz_plain.proofs.Growth.{Grow}
-use Rattle.gz_plain.proofs.Takes.{AllTaken, all_later, all_more, AllUpto, upto_ends, all_upto_more, all_upto_later, order_later, orders_more, reads_fronts, AllShaped, all_shaped_more, shaped_ends}
+use Rattle.gz_plain.specs.Running.{AllUpto}
+use Rattle.gz_plain.proofs.Longer.{Longer, grow_longer}
+use Rattle.gz_plain.proofs.Takes.{AllTaken, all_later, all_more, upto_ends, all_upto_more, all_upto_later, order_later, orders_more, reads_fronts, AllShaped, all_shaped_more, shaped_ends}
 use Rattle.gz_plain.proofs.Batches.{clock_after, clock_more}
 use Rattle.gz_plain.specs.Runs.{Distinct, ArePresent, IsLine}
 use Rattle.gz_plain.proofs.Writes.{Holds, holds_written, holds_foreign, grow_written, AllForeign, foreign_grow, accept_all}
@@ -88,7 +90,7 @@ few Count state m = omega arith
 few Relay state m = omega arith
 few Latest state m = omega arith
 
-few_out : (app : AppKind) (state : State) (ms : List Message) → length (put_out app state ms) ≤ length ms
+pub few_out : (app : AppKind) (state : State) (ms : List Message) → length (put_out app state ms) ≤ length ms
 few_out app state [] = omega arith
 few_out app state (m ∷ ms) =
     omega (arith, length-append (puts app state m) (put_out app (after app state m) ms), few app state m, few_out app (after app state m) ms)
@@ -127,16 +129,16 @@ each_line p last (o ∷ os) h fits a = (h.line (last + 1) o (omega arith) a.0, e
 
 -- ---- a commit
 
-less_than : (m n : ℕ) → nat_lt m n ≡ true → m < n
+pub less_than : (m n : ℕ) → nat_lt m n ≡ true → m < n
 less_than m n is = grind (arith, common_steps)
 
 -- the read order after a commit, and the journals that it gives
-order_commit : (js new : List Journal) (ms : List Message) (s : Shard) → ms ≡ untaken js s → AreWhole js → Grow js new → AllUpto js s.commits s.sources
+pub order_commit : (js new : List Journal) (ms : List Message) (s : Shard) → ms ≡ untaken js s → Longer js new → AllUpto js s.commits s.sources
     → read_order new (committing js ms s) ≡ read_order js s ++ ms
-order_commit js new ms s is whole grow upto =
+order_commit js new ms s is longer upto =
     let froms : List ℕ = froms_of s.sources in
     let ends : List ℕ = ends_of js s.sources in
-    order_later js new froms (s.commits ++ ends ∷ []) s.sources whole grow (all_upto_more js s.commits s.sources ends (upto_ends js s.sources) upto)
+    order_later js new froms (s.commits ++ ends ∷ []) s.sources longer (all_upto_more js s.commits s.sources ends (upto_ends js s.sources) upto)
     ∙ orders_more froms s.commits ends (all_committed js s.sources)
     ∙ ap (λ (xs : List Message). read_order js s ++ xs) (sym is)
 
@@ -159,11 +161,11 @@ kept_commit js ms s is whole lawful room k =
     let ends : List ℕ = ends_of js s.sources in
     let w = writes_lines js ms s is lawful room in
     let grow : Grow js new = grow_written (length s.outputs) 0 (lines_from s.producer s.clock os) (ack_at s.producer (s.clock + length os + 1)) s.outputs js w.1 w.0 in
-    let order : read_order new (committing js ms s) ≡ read_order js s ++ ms = order_commit js new ms s is whole grow k.upto in
+    let order : read_order new (committing js ms s) ≡ read_order js s ++ ms = order_commit js new ms s is (grow_longer js new grow) k.upto in
     record {
       batches = k.batches ++ os ∷ [];
-      taken = all_later js new s.sources (s.commits ++ ends ∷ []) whole grow (all_more js s.sources s.commits k.taken);
-      upto = all_upto_later js new (s.commits ++ ends ∷ []) s.sources whole grow (all_upto_more js s.commits s.sources ends (upto_ends js s.sources) k.upto);
+      taken = all_later js new s.sources (s.commits ++ ends ∷ []) (grow_longer js new grow) (all_more js s.sources s.commits k.taken);
+      upto = all_upto_later js new (s.commits ++ ends ∷ []) s.sources (grow_longer js new grow) (all_upto_more js s.commits s.sources ends (upto_ends js s.sources) k.upto);
       shape = all_shaped_more s.commits s.sources ends (shaped_ends js s.sources) k.shape;
       store = ap (λ (state : _). folded s.app state ms) k.store ∙ sym (folded_two s.app [] (read_order js s) ms) ∙ ap (λ (xs : List Message). folded s.app [] xs) (sym order);
       puts = joined_more k.batches os
@@ -180,11 +182,11 @@ kept_commit js ms s is whole lawful room k =
 pub kept_foreign : (js new : List Journal) (s : Shard) → AreWhole js → AllForeign s.producer js new → Kept js s → Kept new s
 kept_foreign js new s whole foreign k =
     let grow : Grow js new = foreign_grow s.producer js new foreign in
-    let order : read_order new s ≡ read_order js s = order_later js new (froms_of s.sources) s.commits s.sources whole grow k.upto in
+    let order : read_order new s ≡ read_order js s = order_later js new (froms_of s.sources) s.commits s.sources (grow_longer js new grow) k.upto in
     record {
       batches = k.batches;
-      taken = all_later js new s.sources s.commits whole grow k.taken;
-      upto = all_upto_later js new s.commits s.sources whole grow k.upto;
+      taken = all_later js new s.sources s.commits (grow_longer js new grow) k.taken;
+      upto = all_upto_later js new s.commits s.sources (grow_longer js new grow) k.upto;
       shape = k.shape;
       store = k.store ∙ ap (λ (xs : List Message). folded s.app [] xs) (sym order);
       puts = k.puts ∙ ap (λ (xs : List Message). put_out s.app [] xs) (sym order);

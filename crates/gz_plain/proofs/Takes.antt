@@ -7,11 +7,13 @@ use Rattle.gz_frame.specs.Messages.{Message}
 use Rattle.gz_frame.specs.Release.{Release}
 use Rattle.gz_plain.specs.Plain.{messages_of, part, order_from, last_from}
 use Rattle.gz_plain.specs.ExactlyOnce.{NeverFall}
-use Rattle.gz_plain.specs.Journals.{Journal, AreWhole}
+use Rattle.gz_plain.specs.Journals.{Journal}
 use Rattle.gz_plain.specs.Sources.{Source, end_of, committed, froms_of, ends_of, all_committed, parts, order_of, last_of}
+use Rattle.gz_plain.specs.Running.{Upto, AllUpto}
 use Rattle.gz_plain.specs.Promise.{first_of, rest_of, firsts, rests, ReadsFronts, ReadsEach}
 use Rattle.gz_plain.proofs.Parts.{Within, within_two, within_wider, part_inside, part_before, part_after, part_two, order_same, order_more, last_more, never_fall_more, last_above, messages_two}
-use Rattle.gz_plain.proofs.Growth.{Grow, Later, later, committed_within}
+use Rattle.gz_plain.proofs.Growth.{Later, committed_within}
+use Rattle.gz_plain.proofs.Longer.{Longer, later_any}
 
 -- ---- one source
 
@@ -96,13 +98,13 @@ pub none_taken : (js : List Journal) (ss : List Source) → AllTaken js ss []
 none_taken js [] = tt
 none_taken js (s ∷ ss) = (taken_none js s, none_taken js ss)
 
-pub all_later : (js new : List Journal) (ss : List Source) (commits : List (List ℕ)) → AreWhole js → Grow js new → AllTaken js ss commits → AllTaken new ss commits
-all_later js new [] commits whole grow t = tt
-all_later js new (s ∷ ss) commits whole grow t =
-    let l : Later js new s = later js new s whole grow in (
+pub all_later : (js new : List Journal) (ss : List Source) (commits : List (List ℕ)) → Longer js new → AllTaken js ss commits → AllTaken new ss commits
+all_later js new [] commits longer t = tt
+all_later js new (s ∷ ss) commits longer t =
+    let l : Later js new s = later_any js new s longer in (
       subst (λ (rs : List Release). Taken s.from (firsts commits) rs (end_of new s)) (sym l.joined)
           (taken_later s.from (firsts commits) (committed js s) l.more (end_of js s) (end_of new s) l.further l.behind t.0),
-      all_later js new ss (rests commits) whole grow t.1,
+      all_later js new ss (rests commits) longer t.1,
     )
 
 pub all_more : (js : List Journal) (ss : List Source) (commits : List (List ℕ)) → AllTaken js ss commits → AllTaken js ss (commits ++ ends_of js ss ∷ [])
@@ -115,26 +117,16 @@ all_more js (s ∷ ss) commits t =
 
 -- ---- the read order
 
--- each offset is at or before the end of its source
-abbrev pub Upto : List Journal → List ℕ → List Source → Type 0
-Upto js [] ss = ⊤
-Upto js (to ∷ tos) [] = ⊤
-Upto js (to ∷ tos) (s ∷ ss) = (to ≤ end_of js s) × Upto js tos ss
+upto_later : (js new : List Journal) (tos : List ℕ) (ss : List Source) → Longer js new → Upto js tos ss → Upto new tos ss
+upto_later js new [] ss longer u = tt
+upto_later js new (to ∷ tos) [] longer u = tt
+upto_later js new (to ∷ tos) (s ∷ ss) longer u =
+    let l : Later js new s = later_any js new s longer in
+    (omega (arith, u.0, l.further), upto_later js new tos ss longer u.1)
 
-abbrev pub AllUpto : List Journal → List (List ℕ) → List Source → Type 0
-AllUpto js [] ss = ⊤
-AllUpto js (tos ∷ commits) ss = Upto js tos ss × AllUpto js commits ss
-
-upto_later : (js new : List Journal) (tos : List ℕ) (ss : List Source) → AreWhole js → Grow js new → Upto js tos ss → Upto new tos ss
-upto_later js new [] ss whole grow u = tt
-upto_later js new (to ∷ tos) [] whole grow u = tt
-upto_later js new (to ∷ tos) (s ∷ ss) whole grow u =
-    let l : Later js new s = later js new s whole grow in
-    (omega (arith, u.0, l.further), upto_later js new tos ss whole grow u.1)
-
-pub all_upto_later : (js new : List Journal) (commits : List (List ℕ)) (ss : List Source) → AreWhole js → Grow js new → AllUpto js commits ss → AllUpto new commits ss
-all_upto_later js new [] ss whole grow u = tt
-all_upto_later js new (tos ∷ commits) ss whole grow u = (upto_later js new tos ss whole grow u.0, all_upto_later js new commits ss whole grow u.1)
+pub all_upto_later : (js new : List Journal) (commits : List (List ℕ)) (ss : List Source) → Longer js new → AllUpto js commits ss → AllUpto new commits ss
+all_upto_later js new [] ss longer u = tt
+all_upto_later js new (tos ∷ commits) ss longer u = (upto_later js new tos ss longer u.0, all_upto_later js new commits ss longer u.1)
 
 pub upto_ends : (js : List Journal) (ss : List Source) → Upto js (ends_of js ss) ss
 upto_ends js [] = tt
@@ -144,23 +136,23 @@ pub all_upto_more : (js : List Journal) (commits : List (List ℕ)) (ss : List S
 all_upto_more js [] ss tos u a = (u, tt)
 all_upto_more js (c ∷ commits) ss tos u a = (a.0, all_upto_more js commits ss tos u a.1)
 
-parts_later : (js new : List Journal) (froms tos : List ℕ) (ss : List Source) → AreWhole js → Grow js new → Upto js tos ss → parts froms tos (all_committed new ss) ≡ parts froms tos (all_committed js ss)
-parts_later js new [] tos ss whole grow u = refl
-parts_later js new (from ∷ froms) [] ss whole grow u = refl
-parts_later js new (from ∷ froms) (to ∷ tos) [] whole grow u = refl
-parts_later js new (from ∷ froms) (to ∷ tos) (s ∷ ss) whole grow u =
-    let l : Later js new s = later js new s whole grow in
+parts_later : (js new : List Journal) (froms tos : List ℕ) (ss : List Source) → Longer js new → Upto js tos ss → parts froms tos (all_committed new ss) ≡ parts froms tos (all_committed js ss)
+parts_later js new [] tos ss longer u = refl
+parts_later js new (from ∷ froms) [] ss longer u = refl
+parts_later js new (from ∷ froms) (to ∷ tos) [] longer u = refl
+parts_later js new (from ∷ froms) (to ∷ tos) (s ∷ ss) longer u =
+    let l : Later js new s = later_any js new s longer in
     let one : part from to (committed new s) ≡ part from to (committed js s) =
     ap (λ (rs : List Release). part from to rs) l.joined ∙ part_two from to (committed js s) l.more
     ∙ rw (part_after (end_of js s) (end_of new s) from to l.more u.0 l.behind) (append-nil (part from to (committed js s))) in
-    rw (one, parts_later js new froms tos ss whole grow u.1) refl
+    rw (one, parts_later js new froms tos ss longer u.1) refl
 
 -- longer journals leave the read order
-pub order_later : (js new : List Journal) (froms : List ℕ) (commits : List (List ℕ)) (ss : List Source) → AreWhole js → Grow js new → AllUpto js commits ss
+pub order_later : (js new : List Journal) (froms : List ℕ) (commits : List (List ℕ)) (ss : List Source) → Longer js new → AllUpto js commits ss
     → order_of froms commits (all_committed new ss) ≡ order_of froms commits (all_committed js ss)
-order_later js new froms [] ss whole grow u = refl
-order_later js new froms (tos ∷ commits) ss whole grow u =
-    rw (parts_later js new froms tos ss whole grow u.0, order_later js new tos commits ss whole grow u.1) refl
+order_later js new froms [] ss longer u = refl
+order_later js new froms (tos ∷ commits) ss longer u =
+    rw (parts_later js new froms tos ss longer u.0, order_later js new tos commits ss longer u.1) refl
 
 -- one more commit adds its parts
 pub orders_more : (froms : List ℕ) (commits : List (List ℕ)) (tos : List ℕ) (rss : List (List Release))
@@ -217,7 +209,7 @@ last_split from froms (c ∷ commits) s ss a =
     ap (λ (tos : List ℕ). last_of tos commits) (first_shaped from froms c s ss a.0)
     ∙ last_split (first_of c) (rest_of c) commits s ss a.1
 
-append_none : (xs ys : List Message) → xs ++ ys ≡ [] → (xs ≡ []) × (ys ≡ [])
+pub append_none : (xs ys : List Message) → xs ++ ys ≡ [] → (xs ≡ []) × (ys ≡ [])
 append_none [] ys none = (refl, none)
 append_none (x ∷ xs) ys none = cc
 
@@ -239,7 +231,7 @@ reads_each js (s ∷ ss) commits a t none =
 no_between : (at end : ℕ) → (nat_lt at end && nat_le end at) ≡ false
 no_between at end = grind (arith, common_steps)
 
-part_none : (at : ℕ) (rs : List Release) → part at at rs ≡ []
+pub part_none : (at : ℕ) (rs : List Release) → part at at rs ≡ []
 part_none at [] = refl
 part_none at (r ∷ rs) = rw (no_between at r.end) (part_none at rs)
 

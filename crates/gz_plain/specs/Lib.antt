@@ -11,6 +11,8 @@ pub mod Promise
 pub mod Order
 pub mod Runs
 pub mod Readers
+pub mod Places
+pub mod Running
 pub mod Seen
 pub mod Cluster
 pub mod Reports

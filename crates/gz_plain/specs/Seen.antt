@@ -15,7 +15,7 @@ name_of w = w.journal
 abbrev pub shard_of : Shard → shards.Shard
 shard_of s = record {
   producer = s.producer.id;
-  sources = map source_of s.readers.items;
+  sources = map source_of s.readers;
   outputs = map name_of s.writers.items;
   app = s.app;
   is_disabled = s.is_disabled;

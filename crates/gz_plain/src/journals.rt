@@ -1,6 +1,6 @@
 //! Journals: texts that only grow.
 ghost use Rattle.std.specs.Prelude.{◌≡◌, ◌≤◌, ◌^◌, ◌++◌, ◌∷◌, [], length, OnOk, OnErr, All};
-ghost use Rattle.gz_plain.specs.Journals.{place_of};
+ghost use Rattle.gz_plain.specs.Journals.{place_of, text_at, appended_at};
 
 use gz_label::{Blob, Name, NoMemory};
 use std::alloc::Global;
@@ -91,6 +91,30 @@ fn place_among(journals: &[Journal], name: &[u8]) -> usize
     journals.len()
 }
 
+/// The text at this place, and none where there is no such place.
+#[tactic(auto, using(crate::proofs::Places::text_at_read, crate::proofs::Places::text_at_past))]
+fn text_among(journals: &[Journal], place: usize) -> &[u8]
+    ensures value { result.now ≡ text_at place journals.now }
+    ensures short { length (text_at place journals.now) ≤ 2 ^ 62 }
+{
+    match journals.get(place) {
+        Some(journal) => journal.text(),
+        None => &[],
+    }
+}
+
+/// Puts the bytes behind the text at this place, if there is one. After NoMemory nothing has changed.
+#[tactic(auto, using(crate::proofs::Places::appended_at_set, crate::proofs::Places::appended_at_past))]
+fn append_among(journals: &mut [Journal], place: usize, bytes: &[u8]) -> Result<(), NoMemory>
+    ensures ok { OnOk result (journals.new ≡ appended_at place bytes.now journals.old) }
+    ensures err { OnErr result (journals.new ≡ journals.old) }
+{
+    if place >= journals.len() {
+        return Ok(());
+    }
+    journals[place].append(bytes)
+}
+
 impl Journals {
     /// No journals. It takes no memory.
     pub fn new(alloc: Global) -> Journals
@@ -121,5 +145,21 @@ impl Journals {
         ensures { result ≡ place_of name.now self.now }
     {
         place_among(self.journals.as_slice(), name)
+    }
+
+    /// The text of the journal at this place, and none where there is no such place.
+    pub fn text_at(&self, place: usize) -> &[u8]
+        ensures value { result.now ≡ text_at place self.now }
+        ensures short { length (text_at place self.now) ≤ 2 ^ 62 }
+    {
+        text_among(self.journals.as_slice(), place)
+    }
+
+    /// Puts the bytes behind the text of the journal at this place, if there is one. After NoMemory nothing has changed.
+    pub fn append_at(&mut self, place: usize, bytes: &[u8]) -> Result<(), NoMemory>
+        ensures ok { OnOk result (self.new ≡ appended_at place bytes.now self.old) }
+        ensures err { OnErr result (self.new ≡ self.old) }
+    {
+        append_among(self.journals.as_mut_slice(), place, bytes)
     }
 }

@@ -93,6 +93,16 @@ from_cut offset text front back s r st same joined whole whole_back place =
       released = sym (ap (λ (ms : List Message). s.released ++ ms) released ∙ append-nil s.released);
     }
 
+-- the offset that a sequencer wants that is made from the checkpoint of whole lines is where one of them begins, or their end
+cut_of : (offset : ℕ) (text : List ℕ) → is_whole text ≡ true → StartsAt offset text (resumed (point_of (fed (started offset) text))).begin
+cut_of offset text whole =
+    let s : Machine = fed (started offset) text in
+    let st : Stands offset text s = stands offset text whole in
+    let p : Placement offset text (messages_of offset text) = placement text [] offset refl in
+    let firsts : AllFirst offset text s.parts = subst (λ (x : Parts). AllFirst offset text x) (sym st.parts) (all_first_run (messages_of offset text) offset offset text [] p.from p.starts tt) in
+    let end : StartsAt offset text (max s.until s.begin) = record { front = text; back = []; joined = append-nil text; whole = whole; place = omega (arith, st.until, st.begin) } in
+    least_starts s.parts offset text (max s.until s.begin) firsts end
+
 -- after whole lines
 from_whole : (offset : ℕ) (text xs : List ℕ) → is_whole text ≡ true
     → Twin (fed (started offset) text).released (fed (started offset) (text ++ xs)) (fed (resumed (point_of (fed (started offset) text))) (drop (at (resumed (point_of (fed (started offset) text))) - offset) (text ++ xs)))
@@ -100,10 +110,7 @@ from_whole offset text xs whole =
     let s : Machine = fed (started offset) text in
     let r : Machine = resumed (point_of s) in
     let st : Stands offset text s = stands offset text whole in
-    let p : Placement offset text (messages_of offset text) = placement text [] offset refl in
-    let firsts : AllFirst offset text s.parts = subst (λ (x : Parts). AllFirst offset text x) (sym st.parts) (all_first_run (messages_of offset text) offset offset text [] p.from p.starts tt) in
-    let end : StartsAt offset text (max s.until s.begin) = record { front = text; back = []; joined = append-nil text; whole = whole; place = omega (arith, st.until, st.begin) } in
-    let cut : StartsAt offset text r.begin = least_starts s.parts offset text (max s.until s.begin) firsts end in
+    let cut : StartsAt offset text r.begin = cut_of offset text whole in
     let whole_back : is_whole cut.back ≡ true = back_last cut.front cut.back 0 cut.whole (ap (λ (t : List ℕ). is_whole t) cut.joined ∙ whole) in
     let twin : Twin s.released s (fed r cut.back) = from_cut offset text cut.front cut.back s r st refl cut.joined cut.whole whole_back cut.place in
     let left : at r - offset ≡ length cut.front = omega (arith, cut.place) in
@@ -130,6 +137,20 @@ goes_on offset text more =
     let Q : Point → Type 0 = λ q. Twin s.released (fed (started offset) (text ++ more)) (fed (resumed q) (drop (at (resumed q) - offset) (text ++ more))) in
     let R : List Message → Type 0 = λ g. Twin g (fed (started offset) (text ++ more)) (fed (resumed (point_of (fed (started offset) text))) (drop (at (resumed (point_of (fed (started offset) text))) - offset) (text ++ more))) in
     subst R gone (subst Q point (subst P bytes (from_whole offset split.whole (split.rest ++ more) split.lines)))
+
+-- a sequencer that is made from a checkpoint goes on within the text
+pub wants_within : (offset : ℕ) (text : List ℕ) → (offset ≤ at (resumed (point_of (fed (started offset) text)))) × (at (resumed (point_of (fed (started offset) text))) ≤ offset + length text)
+wants_within offset text =
+    let split : Split text = split_of text in
+    let s : Machine = fed (started offset) split.whole in
+    let e : fed (started offset) text ≡ record s { line = s.line ++ split.rest } =
+    ap (λ (t : List ℕ). fed (started offset) t) (sym split.joined) ∙ fed_append split.whole split.rest (started offset) ∙ fed_open split.rest s split.open_end in
+    let cut : StartsAt offset split.whole (resumed (point_of s)).begin = cut_of offset split.whole split.lines in
+    let same : at (resumed (point_of (fed (started offset) text))) ≡ (resumed (point_of s)).begin =
+    ap (λ (m : Machine). at (resumed (point_of m))) e ∙ omega arith in
+    let front : length cut.front + length cut.back ≡ length split.whole = sym (length-append cut.front cut.back) ∙ ap (λ (t : List ℕ). length t) cut.joined in
+    let whole : length split.whole + length split.rest ≡ length text = sym (length-append split.whole split.rest) ∙ ap (λ (t : List ℕ). length t) split.joined in
+    (omega (arith, same, cut.place), omega (arith, same, cut.place, front, whole))
 
 pub releases_the_rest : (offset : ℕ) (text more : List ℕ)
     → released_in (committed offset text) ++ (fed (resumed (point_of (fed (started offset) text))) (drop (at (resumed (point_of (fed (started offset) text))) - offset) (text ++ more))).released ≡ released_in (committed offset (text ++ more))

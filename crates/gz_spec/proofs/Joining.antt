@@ -1,10 +1,12 @@
 -- Valid specifications that are joined are valid.
-use Rattle.std.proofs.Common.{◌≡◌, ℕ, ◌+◌, ◌&&◌, ◌||◌, List, [], ◌∷◌, ◌++◌, map, filter, length, refl, sym, subst, ◌∙◌, append_assoc, append-nil, cond, Bool, true, false, not, nat_le, Ok, Option, Some, None}
+use Rattle.std.proofs.Common.{◌≡◌, ℕ, ap, ◌+◌, ◌&&◌, ◌||◌, List, [], ◌∷◌, ◌++◌, map, filter, length, refl, sym, subst, ◌∙◌, append_assoc, append-nil, cond, Bool, true, false, not, nat_le, Ok, Option, Some, None}
 use Rattle.std.specs.Prelude.{codes, is_some, unwrap_or}
 use Rattle.std.specs.List.{list_all}
 use Rattle.std.specs.Str.{bytes_eq}
 use Rattle.std.proofs.lemmas.Bool.{and_parts, not-true}
 use Rattle.std.proofs.lemmas.Slice.Eq.{bytes_eq-Decides}
+use Rattle.gz_spec.specs.declared.journal.JournalSpec.{JournalSpec}
+use Rattle.gz_spec.specs.declared.shard.ShardSpec.{ShardSpec}
 use Rattle.gz_spec.specs.declared.cluster.Specs.{Specs}
 use Rattle.gz_spec.specs.Lists.{no_more_than, is_used}
 use Rattle.gz_spec.specs.Specs.{name_of_journal, id_of_shard}
@@ -190,3 +192,15 @@ join_is_valid specs more out p q is =
     subst P (whole_good (both_of specs more) out ss.2).same
     (both_good specs more p q (few_good 1024 (codes "journals") (length (both_of specs more).journals) js.0 js.1)
     (few_good 256 (codes "shards") (length (both_of specs more).shards) ss.0 ss.1))
+
+-- joined, with neither list too long
+pub joined_is_valid : (specs more out : Specs) (journals : List JournalSpec) (shards : List ShardSpec) (first last : List ℕ) (u v : Unit {0}) → out ≡ both_of specs more
+    → journals ≡ out.journals → no_more_than 1024 first (length journals) ≡ Ok u → shards ≡ out.shards → no_more_than 256 last (length shards) ≡ Ok v
+    → are_specs specs ≡ true → are_specs more ≡ true → are_specs out ≡ true
+joined_is_valid specs more out journals shards first last u v is js few ss short p q =
+    let P : Specs → Type 0 = λ s. are_specs s ≡ true in
+    let J : List JournalSpec → Type 0 = λ xs. nat_le (length xs) 1024 ≡ true in
+    let S : List ShardSpec → Type 0 = λ xs. nat_le (length xs) 256 ≡ true in
+    subst P (sym is) (both_good specs more p q
+    (subst J (js ∙ ap (λ (s : Specs). s.journals) is) (few_good 1024 first (length journals) u few))
+    (subst S (ss ∙ ap (λ (s : Specs). s.shards) is) (few_good 256 last (length shards) v short)))

@@ -1,5 +1,5 @@
 //! The specifications of a cluster as JSON: four lists.
-ghost use Rattle.std.specs.Prelude.{◌≡◌, ◌++◌, ◌+◌, [], ◌∷◌, length, map, IfOk, codes};
+ghost use Rattle.std.specs.Prelude.{◌≡◌, ◌++◌, ◌+◌, [], ◌∷◌, length, map, IfOk, IsTrue, codes};
 ghost use Rattle.serde_json.specs.View.{view, items_view};
 ghost use Rattle.gz_spec.specs.Outcomes.{Gives};
 ghost use Rattle.gz_spec.specs.Lists.{count, no_more_than, each};
@@ -7,6 +7,7 @@ ghost use Rattle.gz_spec.specs.Journals.{next_journal};
 ghost use Rattle.gz_spec.specs.Shards.{next_shard};
 ghost use Rattle.gz_spec.specs.Members.{next_member};
 ghost use Rattle.gz_spec.specs.Specs.{name_of_journal, id_of_shard, id_of_member, journals_in, shards_in, members_in, part_in, part_of, acyclic, whole, specs_of};
+ghost use Rattle.gz_spec.specs.Valid.{are_specs};
 ghost use Rattle.gz_spec.specs.Joins.{both_of, join_of};
 ghost use Rattle.gz_spec.specs.Cycles.{first_cycle, IsToldCycle};
 
@@ -339,10 +340,12 @@ fn read_part_in(alloc: Global, value: &Value) -> Result<Specs, SpecError>
 }
 
 /// The four lists that the text says, each by itself: whether the journals that the shards name are
-/// there isn't asked. A member `do` of the outermost object is passed over.
+/// there isn't asked. A member `do` of the outermost object is passed over. What is read is printed and read
+/// back the same.
 #[tactic(auto, unfolding(crate::specs::Specs::part_of))]
 pub fn read_part(alloc: Global, bytes: &[u8]) -> Result<Specs, SpecError>
-    ensures { Gives (λ s. s) result (part_of bytes.now) }
+    ensures gives { Gives (λ s. s) result (part_of bytes.now) }
+    ensures valid { IfOk result (λ s. IsTrue (are_specs s)) }
 {
     let value = parse(alloc, bytes)?;
     let specs = read_part_in(alloc, &value)?;
@@ -376,10 +379,12 @@ fn refuse_broken(alloc: Global, specs: &Specs) -> Result<(), SpecError>
     Ok(())
 }
 
-/// The four lists that the text says. A member `do` of the outermost object is passed over.
+/// The four lists that the text says. A member `do` of the outermost object is passed over. What is read is
+/// printed and read back the same.
 #[tactic(auto, unfolding(crate::specs::Specs::specs_of))]
 pub fn read_specs(alloc: Global, bytes: &[u8]) -> Result<Specs, SpecError>
-    ensures { Gives (λ s. s) result (specs_of bytes.now) }
+    ensures gives { Gives (λ s. s) result (specs_of bytes.now) }
+    ensures valid { IfOk result (λ s. IsTrue (are_specs s)) }
 {
     let specs = read_part(alloc, bytes)?;
     refuse_broken(alloc, &specs)?;
@@ -416,10 +421,12 @@ impl Specs {
     /// These with the journals and shards of `more`: one of a name that is there replaces it in its place,
     /// and the new ones follow in their order. The members stay. BadField with the path of the labels in
     /// `more` where the values of a replaced journal's label `content-type` would change; else BadNumber
-    /// where there would be more than 1,024 journals or 256 shards; then NoJournal and Cycle, of all.
+    /// where there would be more than 1,024 journals or 256 shards; then NoJournal and Cycle, of all. Where both
+    /// are valid, as what is read is, so are these.
     #[tactic(auto, unfolding(crate::specs::Joins::join_of))]
     pub fn join(&self, more: &Specs) -> Result<Specs, SpecError>
-        ensures { Gives (λ specs. specs) result (join_of self.now more.now) }
+        ensures gives { Gives (λ specs. specs) result (join_of self.now more.now) }
+        ensures valid { IfOk result (λ specs. IsTrue (are_specs self.now) → IsTrue (are_specs more.now) → IsTrue (are_specs specs)) }
     {
         let alloc = *self.journals.journals.allocator();
         refuse_changed(alloc, self.journals.as_slice(), more.journals.as_slice())?;

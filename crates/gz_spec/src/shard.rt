@@ -1,8 +1,9 @@
 //! A shard's specification as JSON.
-ghost use Rattle.std.specs.Prelude.{◌≡◌, ◌++◌, ◌∷◌, [], IfOk, codes};
+ghost use Rattle.std.specs.Prelude.{◌≡◌, ◌++◌, ◌∷◌, [], IfOk, IsTrue, codes};
 ghost use Rattle.serde_json.specs.View.{view};
 ghost use Rattle.gz_label.specs.Labels.{values_of};
 ghost use Rattle.gz_spec.specs.Outcomes.{Gives};
+ghost use Rattle.gz_spec.specs.Valid.{is_shard};
 ghost use Rattle.gz_spec.specs.Shards.{app_of, shard_with, shard_at, shard_of, next_shard};
 
 use crate::SpecError;
@@ -136,10 +137,12 @@ pub fn read_next_shard(
     Ok(shard)
 }
 
-/// The shard that the text is, by itself. Paths begin at the shard.
+/// The shard that the text is, by itself. Paths begin at the shard. What is read is printed and read back
+/// the same.
 #[tactic(auto, unfolding(crate::specs::Shards::shard_of))]
 pub fn read_shard(alloc: Global, bytes: &[u8]) -> Result<ShardSpec, SpecError>
-    ensures { Gives (λ s. s) result (shard_of bytes.now) }
+    ensures gives { Gives (λ s. s) result (shard_of bytes.now) }
+    ensures valid { IfOk result (λ s. IsTrue (is_shard s)) }
 {
     let value = parse(alloc, bytes)?;
     let shard = read_shard_at(alloc, &Blob::new(alloc), &value)?;

@@ -1,0 +1,248 @@
+-- Journals by their places, and the texts that a commit puts behind them.
+use Rattle.std.proofs.Common.{◌≡◌, ℕ, zero, suc, ◌+◌, ◌<◌, ◌≤◌, ◌==◌, List, [], ◌∷◌, ◌++◌, length, map, get_or, set, drop, replicate, refl, ap, sym, ◌∙◌, append_assoc, Bool, true, false, cond, arith}
+use Rattle.std.proofs.lemmas.Bool.{eqb-true, eqb-false}
+use Rattle.std.proofs.lemmas.List.{append-nil, drop_more, drop_all, length-map, length-replicate}
+use Rattle.std.proofs.lemmas.List.Elements.{filter-append}
+use Rattle.std.proofs.lemmas.List.Concat.{flat_map-append}
+use Rattle.std.proofs.lemmas.Slice.Eq.{bytes_eq-Decides}
+use Rattle.std.specs.Str.{bytes_eq}
+use Rattle.gz_frame.specs.Line.{line_of}
+use Rattle.gz_frame.specs.Messages.{Message, continue_txn}
+use Rattle.gz_app.specs.Applications.{Output}
+use Rattle.gz_plain.specs.Journals.{Journal, text_of, appended, place_of, text_at, appended_at}
+use Rattle.gz_plain.specs.Order.{Apart}
+use Rattle.gz_plain.specs.Places.{names_of, places_of, ArePlaced, with_lines, ended, all_appended}
+use Rattle.gz_plain.specs.Plain.{lines_from}
+use Rattle.gz_plain.specs.Runs.{Distinct, all_empty}
+use Rattle.gz_plain.specs.Seen.{name_of}
+use Rattle.gz_plain.specs.Shards.{choice, lines_to, closed, text_of_lines, written_to}
+use Rattle.gz_plain.specs.declared.writer.Writer.{Writer}
+use Rattle.gz_plain.proofs.Committed.{line_some}
+
+-- ---- a place
+
+text_first : (name : List ℕ) (j : Journal) (js : List Journal) (here : Bool) → text_of name js ≡ text_at (place_of name js) js
+    → cond here j.text (text_of name js) ≡ text_at (cond here 0 (suc (place_of name js))) (j ∷ js)
+text_first name j js true rest = refl
+text_first name j js false rest = rest
+
+-- the text of a name is that at its place
+pub text_of_is : (name : List ℕ) (js : List Journal) → text_of name js ≡ text_at (place_of name js) js
+text_of_is name [] = refl
+text_of_is name (j ∷ js) = text_first name j js (bytes_eq j.name name) (text_of_is name js)
+
+-- the text at a place of the list
+pub text_at_read : (i : ℕ) (js : List Journal) (j : Journal) → i < length js → j ≡ get_or js i j → j.text ≡ text_at i js
+text_at_read i [] j within is = absurd (omega (arith, within))
+text_at_read zero (k ∷ js) j within is = ap (λ (o : Journal). o.text) is
+text_at_read (suc i) (k ∷ js) j within is = text_at_read i js j (omega (arith, within)) is
+
+-- there is no text past the end
+pub text_at_past : (i : ℕ) (js : List Journal) → length js ≤ i → text_at i js ≡ []
+text_at_past i [] past = refl
+text_at_past zero (k ∷ js) past = absurd (omega (arith, past))
+text_at_past (suc i) (k ∷ js) past = text_at_past i js (omega (arith, past))
+
+-- an append at a place of the list sets what stands there
+pub appended_at_set : (i : ℕ) (bytes : List ℕ) (js : List Journal) (j : Journal) → i < length js → j ≡ get_or js i j
+    → set js i (record j { text = j.text ++ bytes }) ≡ appended_at i bytes js
+appended_at_set i bytes [] j within is = absurd (omega (arith, within))
+appended_at_set zero bytes (k ∷ js) j within is = ap (λ (o : Journal). record o { text = o.text ++ bytes } ∷ js) is
+appended_at_set (suc i) bytes (k ∷ js) j within is = ap (λ (rest : List Journal). k ∷ rest) (appended_at_set i bytes js j (omega (arith, within)) is)
+
+-- an append past the end does nothing
+pub appended_at_past : (i : ℕ) (bytes : List ℕ) (js : List Journal) → length js ≤ i → appended_at i bytes js ≡ js
+appended_at_past i bytes [] past = refl
+appended_at_past zero bytes (k ∷ js) past = absurd (omega (arith, past))
+appended_at_past (suc i) bytes (k ∷ js) past = ap (λ (rest : List Journal). k ∷ rest) (appended_at_past i bytes js (omega (arith, past)))
+
+-- ---- an append to the journal of a name
+
+-- a name that no journal has
+pub none_appended : (name bytes : List ℕ) (js : List Journal) → Apart name (names_of js) → appended name bytes js ≡ js
+none_appended name bytes [] a = refl
+none_appended name bytes (j ∷ js) a = rw (a.1, none_appended name bytes js a.2) refl
+
+appended_first : (name bytes : List ℕ) (j : Journal) (js : List Journal) (here : Bool) → bytes_eq j.name name ≡ here → Apart j.name (names_of js)
+    → appended name bytes js ≡ appended_at (place_of name js) bytes js
+    → cond here (record j { text = j.text ++ bytes }) j ∷ appended name bytes js ≡ appended_at (cond here 0 (suc (place_of name js))) bytes (j ∷ js)
+appended_first name bytes j js true is a rest =
+    let same : j.name ≡ name = (bytes_eq-Decides j.name name).0 is in
+    ap (λ (back : List Journal). record j { text = j.text ++ bytes } ∷ back)
+    (ap (λ (n : List ℕ). appended n bytes js) (sym same) ∙ none_appended j.name bytes js a)
+appended_first name bytes j js false is a rest = ap (λ (back : List Journal). j ∷ back) rest
+
+-- where each name is there once, the journal of the name is the one at its place
+pub appended_is : (name bytes : List ℕ) (js : List Journal) → Distinct (names_of js) → appended name bytes js ≡ appended_at (place_of name js) bytes js
+appended_is name bytes [] d = refl
+appended_is name bytes (j ∷ js) d = appended_first name bytes j js (bytes_eq j.name name) refl d.0 (appended_is name bytes js d.1)
+
+name_first : (bytes : List ℕ) (j : Journal) (here : Bool) → (cond here (record j { text = j.text ++ bytes }) j).name ≡ j.name
+name_first bytes j true = refl
+name_first bytes j false = refl
+
+-- the names stay
+pub names_stay : (name bytes : List ℕ) (js : List Journal) → names_of (appended name bytes js) ≡ names_of js
+names_stay name bytes [] = refl
+names_stay name bytes (j ∷ js) = rw (name_first bytes j (bytes_eq j.name name), names_stay name bytes js) refl
+
+-- an append at a place keeps the names too
+pub names_stay_at : (i : ℕ) (bytes : List ℕ) (js : List Journal) → names_of (appended_at i bytes js) ≡ names_of js
+names_stay_at i bytes [] = refl
+names_stay_at zero bytes (j ∷ js) = refl
+names_stay_at (suc i) bytes (j ∷ js) = ap (λ (names : List (List ℕ)). j.name ∷ names) (names_stay_at i bytes js)
+
+-- so each is still named once
+pub distinct_stay_at : (i : ℕ) (bytes : List ℕ) (js : List Journal) → Distinct (names_of js) → Distinct (names_of (appended_at i bytes js))
+distinct_stay_at i bytes js d = rw (names_stay_at i bytes js) d
+
+-- journals that begin have the names that they were given
+pub names_empty : (names : List (List ℕ)) → names_of (all_empty names) ≡ names
+names_empty [] = refl
+names_empty (n ∷ names) = ap (λ (rest : List (List ℕ)). n ∷ rest) (names_empty names)
+
+-- the places stay
+pub place_stays : (name bytes other : List ℕ) (js : List Journal) → place_of other (appended name bytes js) ≡ place_of other js
+place_stays name bytes other [] = refl
+place_stays name bytes other (j ∷ js) = rw (name_first bytes j (bytes_eq j.name name), place_stays name bytes other js) refl
+
+-- each is still named once
+pub distinct_stay : (name bytes : List ℕ) (js : List Journal) → Distinct (names_of js) → Distinct (names_of (appended name bytes js))
+distinct_stay name bytes js d = rw (names_stay name bytes js) d
+
+-- writers stay at the places of their journals
+pub placed_stay : (name bytes : List ℕ) (js : List Journal) (ws : List Writer) → ArePlaced js ws → ArePlaced (appended name bytes js) ws
+placed_stay name bytes js [] p = tt
+placed_stay name bytes js (w ∷ ws) p = (p.0 ∙ sym (place_stays name bytes w.journal js), placed_stay name bytes js ws p.1)
+
+-- ---- lines for each output
+
+text_two : (xs ys : List Message) → text_of_lines (xs ++ ys) ≡ text_of_lines xs ++ text_of_lines ys
+text_two xs ys = flat_map-append (λ m. line_of m) xs ys
+
+lines_two : (count place : ℕ) (xs ys : List Message) → lines_to count place (xs ++ ys) ≡ lines_to count place xs ++ lines_to count place ys
+lines_two count place xs ys = filter-append (λ m. choice count m.key == place) xs ys
+
+-- lines behind lines
+pub with_lines_two : (count place : ℕ) (xs ys : List Message) (texts : List (List ℕ)) → with_lines count place ys (with_lines count place xs texts) ≡ with_lines count place (xs ++ ys) texts
+with_lines_two count place xs ys [] = refl
+with_lines_two count place xs ys (t ∷ texts) =
+    let front : List ℕ = text_of_lines (lines_to count place xs) in
+    let back : List ℕ = text_of_lines (lines_to count place ys) in
+    rw (append_assoc t front back, lines_two count place xs ys, text_two (lines_to count place xs) (lines_to count place ys), with_lines_two count (place + 1) xs ys texts) refl
+
+-- no lines change nothing
+pub with_lines_none : (count place : ℕ) (texts : List (List ℕ)) → with_lines count place [] texts ≡ texts
+with_lines_none count place [] = refl
+with_lines_none count place (t ∷ texts) = rw (append-nil t, with_lines_none count (place + 1) texts) refl
+
+-- there are as many texts
+pub length_with_lines : (count place : ℕ) (lines : List Message) (texts : List (List ℕ)) → length (with_lines count place lines texts) ≡ length texts
+length_with_lines count place lines [] = refl
+length_with_lines count place lines (t ∷ texts) = ap (λ (n : ℕ). suc n) (length_with_lines count (place + 1) lines texts)
+
+not_here : (count place : ℕ) (m : Message) (t : List ℕ) (here : Bool) → (choice count m.key == place) ≡ here → (choice count m.key ≡ place → ⊥) → t ++ text_of_lines (cond here (m ∷ []) []) ≡ t
+not_here count place m t true is apart = absurd (apart (eqb-true (choice count m.key) place is))
+not_here count place m t false is apart = append-nil t
+
+is_here : (count place : ℕ) (m : Message) (t : List ℕ) (here : Bool) → (choice count m.key == place) ≡ here → choice count m.key ≡ place → t ++ text_of_lines (cond here (m ∷ []) []) ≡ t ++ line_of m
+is_here count place m t true is same = ap (λ (bytes : List ℕ). t ++ bytes) (append-nil (line_of m))
+is_here count place m t false is same = absurd (eqb-false (choice count m.key) place is same)
+
+-- a line that chooses an output before these
+behind : (count place : ℕ) (m : Message) (texts : List (List ℕ)) → choice count m.key < place → with_lines count place (m ∷ []) texts ≡ texts
+behind count place m [] before = refl
+behind count place m (t ∷ texts) before =
+    rw (not_here count place m t (choice count m.key == place) refl (λ same. omega (arith, same, before)), behind count (place + 1) m texts (omega (arith, before))) refl
+
+-- a line goes behind the text that it chooses
+pub with_line_set : (count place i : ℕ) (m : Message) (texts : List (List ℕ)) (t : List ℕ) → choice count m.key ≡ place + i → i < length texts → t ≡ get_or texts i t
+    → set texts i (t ++ line_of m) ≡ with_lines count place (m ∷ []) texts
+with_line_set count place i m [] t is within read = absurd (omega (arith, within))
+with_line_set count place zero m (o ∷ texts) t is within read =
+    rw (read, is_here count place m o (choice count m.key == place) refl (omega (arith, is)), behind count (place + 1) m texts (omega (arith, is))) refl
+with_line_set count place (suc i) m (o ∷ texts) t is within read =
+    rw (not_here count place m o (choice count m.key == place) refl (λ same. omega (arith, same, is)))
+    (ap (λ (rest : List (List ℕ)). o ∷ rest) (with_line_set count (place + 1) i m texts t (omega (arith, is)) (omega (arith, within)) read))
+
+message_turn : (count : ℕ) (producer : List ℕ) (last i : ℕ) (os : List Output) (o : Output) (texts : List (List ℕ)) → i < length os → o ≡ get_or os i o
+    → with_lines count 0 (lines_from producer (last + (i + 1)) (drop (i + 1) os)) (with_lines count 0 (record { producer = producer; clock = last + i + 1; flags = continue_txn; key = o.key; value = o.value } ∷ []) texts)
+    ≡ with_lines count 0 (lines_from producer (last + i) (drop i os)) texts
+message_turn count producer last i os o texts within read =
+    let m : Message = record { producer = producer; clock = last + i + 1; flags = continue_txn; key = o.key; value = o.value } in
+    let next : last + (i + 1) ≡ last + i + 1 = omega arith in
+    let split : drop i os ≡ o ∷ drop (i + 1) os = drop_more os i o within ∙ ap (λ (first : Output). first ∷ drop (i + 1) os) (sym read) in
+    with_lines_two count 0 (m ∷ []) (lines_from producer (last + (i + 1)) (drop (i + 1) os)) texts
+    ∙ ap (λ (n : ℕ). with_lines count 0 (m ∷ lines_from producer n (drop (i + 1) os)) texts) next
+    ∙ ap (λ (rest : List Output). with_lines count 0 (lines_from producer (last + i) rest) texts) (sym split)
+
+-- one more output is put
+pub lines_turn : (count : ℕ) (producer : List ℕ) (last i : ℕ) (os : List Output) (o : Output) (m : Message) (all : List (List ℕ)) (texts new : List (List ℕ)) → i < length os → o ≡ get_or os i o
+    → m ≡ record { producer = producer; clock = last + i + 1; flags = continue_txn; key = o.key; value = o.value } → length texts ≡ count → new ≡ with_lines (length texts) 0 (m ∷ []) texts
+    → with_lines count 0 (lines_from producer (last + i) (drop i os)) texts ≡ all
+    → with_lines count 0 (lines_from producer (last + (i + 1)) (drop (i + 1) os)) new ≡ all
+lines_turn count producer last i os o m all texts new within read is long put before =
+    rw (put, long, is) (message_turn count producer last i os o texts within read ∙ before)
+
+-- all outputs are put
+pub lines_end : (count : ℕ) (producer : List ℕ) (last i : ℕ) (os : List Output) (texts all : List (List ℕ)) → length os ≤ i
+    → with_lines count 0 (lines_from producer (last + i) (drop i os)) texts ≡ all → texts ≡ all
+lines_end count producer last i os texts all end is =
+    sym (with_lines_none count 0 texts)
+    ∙ ap (λ (rest : List Output). with_lines count 0 (lines_from producer (last + i) rest) texts) (sym (drop_all i os end))
+    ∙ is
+
+-- ---- what a commit writes
+
+ended_line : (ack m : Message) (ms : List Message) (line : List ℕ) → 0 < length line → ended (line_of ack) (line ++ text_of_lines ms) ≡ (line ++ text_of_lines ms) ++ line_of ack
+ended_line ack m ms [] some = absurd (omega (arith, some))
+ended_line ack m ms (b ∷ bs) some = refl
+
+-- a text has the acknowledgement behind it where it has lines
+ended_is : (ack : Message) (ms : List Message) → ended (line_of ack) (text_of_lines ms) ≡ text_of_lines (closed ack ms)
+ended_is ack [] = refl
+ended_is ack (m ∷ ms) =
+    ended_line ack m ms (line_of m) (line_some m)
+    ∙ ap (λ (back : List ℕ). text_of_lines (m ∷ ms) ++ back) (sym (append-nil (line_of ack)))
+    ∙ sym (text_two (m ∷ ms) (ack ∷ []))
+
+-- there is a text for each writer
+pub length_texts : (count place n : ℕ) (lines : List Message) (line : List ℕ) → length (map (ended line) (with_lines count place lines (replicate n []))) ≡ n
+length_texts count place n lines line =
+    length-map (with_lines count place lines (replicate n [])) (ended line) ∙ length_with_lines count place lines (replicate n []) ∙ length-replicate n []
+
+-- the texts of a commit, behind the journals at the writers' places
+pub written_places : (count place : ℕ) (lines : List Message) (ack : Message) (ws : List Writer) (js : List Journal) → Distinct (names_of js) → ArePlaced js ws
+    → all_appended (places_of ws) (map (ended (line_of ack)) (with_lines count place lines (replicate (length ws) []))) js ≡ written_to count place lines ack (map name_of ws) js
+written_places count place lines ack [] js d p = refl
+written_places count place lines ack (w ∷ ws) js d p =
+    let bytes : List ℕ = text_of_lines (closed ack (lines_to count place lines)) in
+    let rest : List (List ℕ) = map (ended (line_of ack)) (with_lines count (place + 1) lines (replicate (length ws) [])) in
+    let same : appended_at w.place (ended (line_of ack) (text_of_lines (lines_to count place lines))) js ≡ appended w.journal bytes js =
+    rw (ended_is ack (lines_to count place lines), p.0) (sym (appended_is w.journal bytes js d)) in
+    ap (λ (new : List Journal). all_appended (places_of ws) rest new) same
+    ∙ written_places count (place + 1) lines ack ws (appended w.journal bytes js) (distinct_stay w.journal bytes js d) (placed_stay w.journal bytes js ws p.1)
+
+-- ---- what stays in a commit
+
+-- the names stay
+pub names_written : (count place : ℕ) (lines : List Message) (ack : Message) (names : List (List ℕ)) (js : List Journal) → names_of (written_to count place lines ack names js) ≡ names_of js
+names_written count place lines ack [] js = refl
+names_written count place lines ack (n ∷ names) js =
+    let bytes : List ℕ = text_of_lines (closed ack (lines_to count place lines)) in
+    names_written count (place + 1) lines ack names (appended n bytes js) ∙ names_stay n bytes js
+
+-- the places stay
+pub place_written : (count place : ℕ) (lines : List Message) (ack : Message) (names : List (List ℕ)) (js : List Journal) (other : List ℕ)
+    → place_of other (written_to count place lines ack names js) ≡ place_of other js
+place_written count place lines ack [] js other = refl
+place_written count place lines ack (n ∷ names) js other =
+    let bytes : List ℕ = text_of_lines (closed ack (lines_to count place lines)) in
+    place_written count (place + 1) lines ack names (appended n bytes js) other ∙ place_stays n bytes other js
+
+-- writers stay at the places of their journals
+pub placed_written : (count place : ℕ) (lines : List Message) (ack : Message) (names : List (List ℕ)) (js : List Journal) (ws : List Writer) → ArePlaced js ws
+    → ArePlaced (written_to count place lines ack names js) ws
+placed_written count place lines ack names js [] p = tt
+placed_written count place lines ack names js (w ∷ ws) p =
+    (p.0 ∙ sym (place_written count place lines ack names js w.journal), placed_written count place lines ack names js ws p.1)
