@@ -141,33 +141,66 @@ fn padded(text: &mut Blob, line: &str, bytes: usize) -> Result<(), Fail> {
     Ok(())
 }
 
-#[test]
-fn limits(rt: HostRuntime) -> Result<(), Fail> {
-    let alloc = rt.alloc();
-    let words: &[&str] = &["replay", "-"];
-    let specs = SPECS.trim_end();
-    // so many lines of so many bytes each, 0 standing for no blanks, and one line more with so many bytes
-    for (lines, bytes, last, want, exit) in [
-        (65_535, 0, 0, EMPTY_REPORT, Exit::Done),
-        (65_536, 0, 0, "line 65537: limit\n", Exit::BadInput),
-        (1, 0, 4_194_304, EMPTY_REPORT, Exit::Done),
-        (1, 0, 4_194_305, "line 2: limit\n", Exit::BadInput),
-        (31, 4_194_304, 4_194_304, EMPTY_REPORT, Exit::Done),
-        (32, 4_194_304, 0, "line 33: limit\n", Exit::BadInput),
-    ] {
-        let mut text = Blob::new(alloc);
-        padded(&mut text, specs, bytes)?;
-        for _ in 1..lines {
-            padded(&mut text, SETTLE, bytes)?;
-        }
-        padded(&mut text, SETTLE, last)?;
-        let (got, wrote) = run(alloc, words, text, Vec::new(alloc), Vec::new(alloc))?;
-        assert_eq!(rt;
-            wrote.as_slice(),
-            want.as_bytes(),
-            "at {lines}, {bytes} and {last}"
-        );
-        assert_eq!(rt; got, exit, "at {lines}, {bytes} and {last}");
+// So many lines of so many bytes each, 0 standing for no blanks, and one line more with so many bytes.
+fn run_of(alloc: Global, lines: usize, bytes: usize, last: usize) -> Result<(Exit, Blob), Fail> {
+    let mut text = Blob::new(alloc);
+    padded(&mut text, SPECS.trim_end(), bytes)?;
+    for _ in 1..lines {
+        padded(&mut text, SETTLE, bytes)?;
     }
+    padded(&mut text, SETTLE, last)?;
+    run(
+        alloc,
+        &["replay", "-"],
+        text,
+        Vec::new(alloc),
+        Vec::new(alloc),
+    )
+}
+
+#[test]
+fn many_lines(rt: HostRuntime) -> Result<(), Fail> {
+    let alloc = rt.alloc();
+    for (lines, want, exit) in [
+        (65_535, EMPTY_REPORT, Exit::Done),
+        (65_536, "line 65537: limit\n", Exit::BadInput),
+    ] {
+        let (got, wrote) = run_of(alloc, lines, 0, 0)?;
+        assert_eq!(rt; wrote.as_slice(), want.as_bytes(), "at {lines}");
+        assert_eq!(rt; got, exit, "at {lines}");
+    }
+    Ok(())
+}
+
+#[test]
+fn long_lines(rt: HostRuntime) -> Result<(), Fail> {
+    let alloc = rt.alloc();
+    for (last, want, exit) in [
+        (4_194_304, EMPTY_REPORT, Exit::Done),
+        (4_194_305, "line 2: limit\n", Exit::BadInput),
+    ] {
+        let (got, wrote) = run_of(alloc, 1, 0, last)?;
+        assert_eq!(rt; wrote.as_slice(), want.as_bytes(), "at {last}");
+        assert_eq!(rt; got, exit, "at {last}");
+    }
+    Ok(())
+}
+
+// 32 lines of 4,194,304 bytes are as many bytes as an input may have.
+#[test]
+fn a_long_input(rt: HostRuntime) -> Result<(), Fail> {
+    let alloc = rt.alloc();
+    let (got, wrote) = run_of(alloc, 31, 4_194_304, 4_194_304)?;
+    assert_eq!(rt; wrote.as_slice(), EMPTY_REPORT.as_bytes());
+    assert_eq!(rt; got, Exit::Done);
+    Ok(())
+}
+
+#[test]
+fn too_long_an_input(rt: HostRuntime) -> Result<(), Fail> {
+    let alloc = rt.alloc();
+    let (got, wrote) = run_of(alloc, 32, 4_194_304, 0)?;
+    assert_eq!(rt; wrote.as_slice(), "line 33: limit\n".as_bytes());
+    assert_eq!(rt; got, Exit::BadInput);
     Ok(())
 }
