@@ -10,12 +10,14 @@ use Rattle.gz_spec.specs.declared.shard.ShardSpec.{ShardSpec}
 use Rattle.gz_spec.specs.declared.cluster.Specs.{Specs}
 use Rattle.gz_spec.specs.Lists.{no_more_than, is_used}
 use Rattle.gz_spec.specs.Specs.{name_of_journal, id_of_shard}
+use Rattle.gz_spec.specs.Links.{are_linked}
+use Rattle.gz_spec.specs.Cycles.{AreRanked}
 use Rattle.gz_spec.specs.Joins.{named_in, replaced, is_new, joined, both_of, contents_kept, join_of}
 use Rattle.gz_spec.specs.Valid.{are_fresh, is_journal, is_shard, are_journals, are_shards, are_specs}
 use Rattle.gz_spec.proofs.Readable.{step}
 use Rattle.gz_spec.proofs.Sound.{both, few_good}
 use Rattle.gz_spec.proofs.Used.{not_true, bytes_turned, used_parts}
-use Rattle.gz_spec.proofs.Whole.{whole_good}
+use Rattle.gz_spec.proofs.Whole.{IsWhole, whole_good, whole_is_ranked}
 
 -- ---- small steps
 
@@ -213,17 +215,40 @@ both_good specs more p q journals shards =
     (both (are_shards (both_of specs more).shards) _
     (both (nat_le (length (both_of specs more).shards) 256) _ shards ss) b.1)
 
+-- what was joined is both together, judged as a whole, with neither list too long
+record IsJoined (specs more out : Specs) : Type 0 where
+  judged : IsWhole (both_of specs more) out
+  journals : nat_le (length (both_of specs more).journals) 1024 ≡ true
+  shards : nat_le (length (both_of specs more).shards) 256 ≡ true
+
+join_parts : (specs more out : Specs) → join_of specs more ≡ Ok out → IsJoined specs more out
+unfolding join_of
+join_parts specs more out is =
+    let both_are = both_of specs more in
+    let kept = step (contents_kept specs.journals 0 more.journals) _ out is in
+    let js = step (no_more_than 1024 (codes "journals") (length both_are.journals)) _ out kept.2 in
+    let ss = step (no_more_than 256 (codes "shards") (length both_are.shards)) _ out js.2 in
+    record {
+      judged = whole_good both_are out ss.2;
+      journals = few_good 1024 (codes "journals") (length both_are.journals) js.0 js.1;
+      shards = few_good 256 (codes "shards") (length both_are.shards) ss.0 ss.1;
+    }
+
 pub join_is_valid : (specs more out : Specs) → are_specs specs ≡ true → are_specs more ≡ true
     → join_of specs more ≡ Ok out → are_specs out ≡ true
-unfolding join_of
 join_is_valid specs more out p q is =
-    let kept = step (contents_kept specs.journals 0 more.journals) _ out is in
-    let js = step (no_more_than 1024 (codes "journals") (length (both_of specs more).journals)) _ out kept.2 in
-    let ss = step (no_more_than 256 (codes "shards") (length (both_of specs more).shards)) _ out js.2 in
+    let j = join_parts specs more out is in
     let P : Specs → Type 0 = λ s. are_specs s ≡ true in
-    subst P (whole_good (both_of specs more) out ss.2).same
-    (both_good specs more p q (few_good 1024 (codes "journals") (length (both_of specs more).journals) js.0 js.1)
-    (few_good 256 (codes "shards") (length (both_of specs more).shards) ss.0 ss.1))
+    subst P j.judged.same (both_good specs more p q j.journals j.shards)
+
+pub join_is_linked : (specs more out : Specs) → join_of specs more ≡ Ok out
+    → are_linked out.journals out.shards ≡ true
+join_is_linked specs more out is = (join_parts specs more out is).judged.linked
+
+pub join_is_ranked : (specs more out : Specs) → are_specs specs ≡ true → are_specs more ≡ true
+    → join_of specs more ≡ Ok out → (number : List ℕ → ℕ) × AreRanked number out.shards
+join_is_ranked specs more out p q is =
+    whole_is_ranked out (join_is_valid specs more out p q is) (join_parts specs more out is).judged.acyclic
 
 -- joined, with neither list too long
 pub joined_is_valid : (specs more out : Specs) (journals : List JournalSpec) (shards : List ShardSpec)
