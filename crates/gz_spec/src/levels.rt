@@ -241,9 +241,9 @@ impl Waiting {
     }
 }
 
-/// The levels of the journals: shards that no other feeds are taken away, again and again, and a journal's level
-/// says when the last that writes to it was. Where shards are left, it is 0 for what they write to. Whether these
-/// levels serve is judged afterwards.
+/// Levels for the journals: shards that no other feeds are taken away, again and again, and a journal's level
+/// says when the last that writes to it was. What is written to by a shard that is left has level 0. No clause
+/// speaks of them, since `all_climb` judges whether they serve.
 fn levels_of(
     alloc: Global,
     journals: &IndexSet<Name>,
@@ -257,8 +257,8 @@ fn levels_of(
     Ok(waiting.levels)
 }
 
-/// Whether journals have levels by which no shard reaches itself. It takes time and memory by the shards, their sources
-/// and their outputs.
+/// Whether journals have levels by which no shard reaches itself. It takes time and memory by the shards, their
+/// sources and their outputs.
 pub fn is_ordered(alloc: Global, shards: &[ShardSpec]) -> Result<bool, NoMemory>
     ensures { IfOk result (λ ordered. ordered ≡ true → (i : ℕ) → Reaches shards.now i i → ⊥) }
 {

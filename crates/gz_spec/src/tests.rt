@@ -326,15 +326,18 @@ const FEEDING: &str =
 fn are_ordered(alloc: Global, text: &str) -> Result<bool, SpecError> {
     let text = text.replace(alloc, "'", "\"")?;
     let specs = read_part(alloc, text.as_bytes())?;
-    Ok(is_ordered(alloc, specs.shards.as_slice())?)
+    let ordered = is_ordered(alloc, specs.shards.as_slice())?;
+    Ok(ordered)
 }
 
 #[test]
 fn shards_that_feed_no_cycle_are_ordered_by_levels(rt: HostRuntime) -> Result<(), Fail> {
     let alloc = rt.alloc();
-    assert!(rt; are_ordered(alloc, FEEDING)?);
+    let ordered = are_ordered(alloc, FEEDING)?;
+    assert!(rt; ordered);
     let back = FEEDING.replace(alloc, "'a'", "'e'")?;
-    assert!(rt; !are_ordered(alloc, back.as_str())?);
+    let ordered = are_ordered(alloc, back.as_str())?;
+    assert!(rt; !ordered);
     Ok(())
 }
 
