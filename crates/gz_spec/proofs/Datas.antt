@@ -7,9 +7,7 @@ use Rattle.serde_json.specs.View.{items_of}
 use Rattle.serde_json.specs.Written.{has_float, items_have_float, members_have_float}
 use Rattle.gz_label.specs.declared.label.Label.{Label}
 use Rattle.gz_spec.specs.declared.journal.JournalSpec.{JournalSpec}
-use Rattle.gz_spec.specs.declared.source.SourceSpec.{SourceSpec}
 use Rattle.gz_spec.specs.declared.shard.ShardSpec.{ShardSpec}
-use Rattle.gz_spec.specs.declared.member.MemberSpec.{MemberSpec}
 use Rattle.gz_spec.specs.declared.cluster.Specs.{Specs}
 use Rattle.gz_spec.specs.Printed.{values_in_front, label_members, journal_data, source_data, shard_data, member_data, specs_data}
 

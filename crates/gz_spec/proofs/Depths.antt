@@ -1,5 +1,5 @@
 -- How deep what is printed of specifications nests.
-use Rattle.std.proofs.Common.{◌≡◌, ℕ, suc, max, ◌≤◌, List, [], ◌∷◌, map, refl, sym, arith, lit≤, Ordering, Less, Equal, Greater, nat_cmp, subst}
+use Rattle.std.proofs.Common.{ℕ, suc, max, ◌≤◌, List, [], ◌∷◌, map, arith, lit≤, Ordering, Less, Equal, Greater, nat_cmp}
 use Rattle.std.proofs.Math.Nat.{le-max_left, le-max_right, max-le}
 use Rattle.std.specs.Cmp.Lexicographic.{slice_cmp}
 use Rattle.std.specs.Ordering.{match_ordering}
@@ -10,9 +10,8 @@ use Rattle.gz_label.specs.declared.label.Label.{Label}
 use Rattle.gz_spec.specs.declared.journal.JournalSpec.{JournalSpec}
 use Rattle.gz_spec.specs.declared.source.SourceSpec.{SourceSpec}
 use Rattle.gz_spec.specs.declared.shard.ShardSpec.{ShardSpec}
-use Rattle.gz_spec.specs.declared.member.MemberSpec.{MemberSpec}
 use Rattle.gz_spec.specs.declared.cluster.Specs.{Specs}
-use Rattle.gz_spec.specs.Printed.{list_data, values_in_front, label_members, labels_data, journal_data, source_data, shard_data, member_data, specs_data}
+use Rattle.gz_spec.specs.Printed.{list_data, values_in_front, label_members, journal_data, source_data, shard_data, member_data, specs_data}
 
 first_part : (a b n : ℕ) → max a b ≤ n → a ≤ n
 first_part a b n most = let l = le-max_left a b in omega arith

@@ -1,5 +1,5 @@
 -- Labels as an object, from the last label on.
-use Rattle.std.proofs.Common.{◌≡◌, ℕ, zero, suc, ◌+◌, ◌-◌, ◌<◌, List, [], ◌∷◌, length, take, drop, refl, arith, ap, ◌∙◌}
+use Rattle.std.proofs.Common.{◌≡◌, ℕ, zero, suc, ◌+◌, ◌-◌, ◌<◌, List, [], ◌∷◌, length, take, drop, refl, arith, ◌∙◌}
 use Rattle.std.proofs.lemmas.List.{take_rest}
 use Rattle.serde_json.specs.Data.{Members}
 use Rattle.gz_label.specs.declared.label.Label.{Label}

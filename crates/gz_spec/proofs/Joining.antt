@@ -1,5 +1,5 @@
 -- Valid specifications that are joined are valid.
-use Rattle.std.proofs.Common.{◌≡◌, ℕ, ap, ◌+◌, ◌&&◌, ◌||◌, List, [], ◌∷◌, ◌++◌, map, filter, length, refl, sym, subst, ◌∙◌, append_assoc, append-nil, cond, Bool, true, false, not, nat_le, Ok, Option, Some, None}
+use Rattle.std.proofs.Common.{◌≡◌, ℕ, ap, ◌&&◌, ◌||◌, List, [], ◌∷◌, ◌++◌, map, filter, length, refl, sym, subst, ◌∙◌, append_assoc, append-nil, cond, Bool, true, false, not, nat_le, Ok, Option, Some, None}
 use Rattle.std.specs.Prelude.{codes, is_some, unwrap_or}
 use Rattle.std.specs.List.{list_all}
 use Rattle.std.specs.Str.{bytes_eq}
@@ -10,12 +10,14 @@ use Rattle.gz_spec.specs.declared.shard.ShardSpec.{ShardSpec}
 use Rattle.gz_spec.specs.declared.cluster.Specs.{Specs}
 use Rattle.gz_spec.specs.Lists.{no_more_than, is_used}
 use Rattle.gz_spec.specs.Specs.{name_of_journal, id_of_shard}
+use Rattle.gz_spec.specs.Links.{are_linked}
+use Rattle.gz_spec.specs.Cycles.{AreRanked}
 use Rattle.gz_spec.specs.Joins.{named_in, replaced, is_new, joined, both_of, contents_kept, join_of}
 use Rattle.gz_spec.specs.Valid.{are_fresh, is_journal, is_shard, are_journals, are_shards, are_specs}
 use Rattle.gz_spec.proofs.Readable.{step}
 use Rattle.gz_spec.proofs.Sound.{both, few_good}
 use Rattle.gz_spec.proofs.Used.{not_true, bytes_turned, used_parts}
-use Rattle.gz_spec.proofs.Whole.{whole_good}
+use Rattle.gz_spec.proofs.Whole.{IsWhole, whole_good, whole_is_ranked}
 
 -- ---- small steps
 
@@ -38,36 +40,44 @@ or_none false is = is
 same_thing : {A : Type 0} (a b : A) → (let o : Option A = Some a in o ≡ Some b) → a ≡ b
 same_thing a b is = cc
 
-named_turn : {A : Type 0} (name_of : A → List ℕ) (good : A → Bool) (name : List ℕ) (x a : A) (t : Bool) (rest : Option A) → t ≡ bytes_eq (name_of x) name → good x ≡ true
-    → (rest ≡ Some a → (good a ≡ true) × (name_of a ≡ name)) → cond t (Some x) rest ≡ Some a → (good a ≡ true) × (name_of a ≡ name)
+named_turn : {A : Type 0} (name_of : A → List ℕ) (good : A → Bool) (name : List ℕ) (x a : A) (t : Bool)
+    (rest : Option A) → t ≡ bytes_eq (name_of x) name → good x ≡ true
+    → (rest ≡ Some a → (good a ≡ true) × (name_of a ≡ name)) → cond t (Some x) rest ≡ Some a
+    → (good a ≡ true) × (name_of a ≡ name)
 named_turn {A} name_of good name x a true rest t here later is =
     let P : A → Type 0 = λ y. (good y ≡ true) × (name_of y ≡ name) in
     subst P (same_thing x a is) (here, (bytes_eq-Decides (name_of x) name).0 (sym t))
 named_turn name_of good name x a false rest t here later is = later is
 
 -- what is found is good, and has the name
-named_valid : {A : Type 0} (name_of : A → List ℕ) (good : A → Bool) (name : List ℕ) (xs : List A) (a : A) → list_all good xs ≡ true → named_in name_of name xs ≡ Some a
+named_valid : {A : Type 0} (name_of : A → List ℕ) (good : A → Bool) (name : List ℕ) (xs : List A) (a : A)
+    → list_all good xs ≡ true → named_in name_of name xs ≡ Some a
     → (good a ≡ true) × (name_of a ≡ name)
 named_valid name_of good name [] a all is = absurd (cc)
 named_valid name_of good name (x ∷ xs) a all is =
     let g = and_parts (good x) (list_all good xs) all in
-    named_turn name_of good name x a (bytes_eq (name_of x) name) (named_in name_of name xs) refl g.0 (λ r. named_valid name_of good name xs a g.1 r) is
+    named_turn name_of good name x a (bytes_eq (name_of x) name) (named_in name_of name xs) refl g.0
+    (λ r. named_valid name_of good name xs a g.1 r) is
 
-chosen_valid : {A : Type 0} (name_of : A → List ℕ) (good : A → Bool) (more : List A) (a : A) (o : Option A) → o ≡ named_in name_of (name_of a) more → list_all good more ≡ true → good a ≡ true
+chosen_valid : {A : Type 0} (name_of : A → List ℕ) (good : A → Bool) (more : List A) (a : A) (o : Option A)
+    → o ≡ named_in name_of (name_of a) more → list_all good more ≡ true → good a ≡ true
     → (good (unwrap_or o a) ≡ true) × (name_of (unwrap_or o a) ≡ name_of a)
 chosen_valid name_of good more a None is all here = (here, refl)
 chosen_valid name_of good more a (Some b) is all here = named_valid name_of good (name_of a) more b all (sym is)
 
-replaced_valid : {A : Type 0} (name_of : A → List ℕ) (good : A → Bool) (more : List A) (a : A) → list_all good more ≡ true → good a ≡ true
+replaced_valid : {A : Type 0} (name_of : A → List ℕ) (good : A → Bool) (more : List A) (a : A)
+    → list_all good more ≡ true → good a ≡ true
     → (good (replaced name_of more a) ≡ true) × (name_of (replaced name_of more a) ≡ name_of a)
-replaced_valid name_of good more a all here = chosen_valid name_of good more a (named_in name_of (name_of a) more) refl all here
+replaced_valid name_of good more a all here = chosen_valid name_of good more a
+    (named_in name_of (name_of a) more) refl all here
 
 -- the old ones, each good, of the names that they had
 record AreReplaced {A : Type 0} (name_of : A → List ℕ) (good : A → Bool) (old new : List A) : Type 0 where
   all : list_all good new ≡ true
   names : map name_of new ≡ map name_of old
 
-all_replaced : {A : Type 0} (name_of : A → List ℕ) (good : A → Bool) (more old : List A) → list_all good more ≡ true → list_all good old ≡ true
+all_replaced : {A : Type 0} (name_of : A → List ℕ) (good : A → Bool) (more old : List A) → list_all good more ≡ true
+    → list_all good old ≡ true
     → AreReplaced name_of good old (map (replaced name_of more) old)
 all_replaced name_of good more [] all here = record { all = refl; names = refl }
 all_replaced name_of good more (a ∷ as_) all here =
@@ -82,7 +92,8 @@ all_replaced name_of good more (a ∷ as_) all here =
 -- ---- names of their own
 
 -- only the names count
-same_names : {A : Type 0} (name_of : A → List ℕ) (used : List (List ℕ)) (xs ys : List A) → map name_of xs ≡ map name_of ys → are_fresh name_of used xs ≡ are_fresh name_of used ys
+same_names : {A : Type 0} (name_of : A → List ℕ) (used : List (List ℕ)) (xs ys : List A)
+    → map name_of xs ≡ map name_of ys → are_fresh name_of used xs ≡ are_fresh name_of used ys
 same_names name_of used [] [] same = refl
 same_names name_of used [] (y ∷ ys) same = absurd (cc)
 same_names name_of used (x ∷ xs) [] same = absurd (cc)
@@ -90,7 +101,8 @@ same_names name_of used (x ∷ xs) (y ∷ ys) same =
     let p = heads (name_of x) (name_of y) (map name_of xs) (map name_of ys) same in
     rw (p.0, same_names name_of (used ++ name_of y ∷ []) xs ys p.1) refl
 
-fresh_append : {A : Type 0} (name_of : A → List ℕ) (xs ys : List A) (used : List (List ℕ)) → are_fresh name_of used xs ≡ true → are_fresh name_of (used ++ map name_of xs) ys ≡ true
+fresh_append : {A : Type 0} (name_of : A → List ℕ) (xs ys : List A) (used : List (List ℕ))
+    → are_fresh name_of used xs ≡ true → are_fresh name_of (used ++ map name_of xs) ys ≡ true
     → are_fresh name_of used (xs ++ ys) ≡ true
 fresh_append name_of [] ys used first last =
     let P : List (List ℕ) → Type 0 = λ us. are_fresh name_of us ys ≡ true in
@@ -99,56 +111,72 @@ fresh_append name_of (x ∷ xs) ys used first last =
     let a = and_parts (not (is_used used (name_of x))) (are_fresh name_of (used ++ name_of x ∷ []) xs) first in
     let P : List (List ℕ) → Type 0 = λ us. are_fresh name_of us ys ≡ true in
     both (not (is_used used (name_of x))) (are_fresh name_of (used ++ name_of x ∷ []) (xs ++ ys)) a.0
-    (fresh_append name_of xs ys (used ++ name_of x ∷ []) a.1 (subst P (sym (append_assoc used (name_of x ∷ []) (map name_of xs))) last))
+    (fresh_append name_of xs ys (used ++ name_of x ∷ []) a.1
+    (subst P (sym (append_assoc used (name_of x ∷ []) (map name_of xs))) last))
 
-found_used : {A : Type 0} (t u r : Bool) (x : A) (o : Option A) → t ≡ u → is_some o ≡ r → is_some (cond t (Some x) o) ≡ (u || r)
+found_used : {A : Type 0} (t u r : Bool) (x : A) (o : Option A) → t ≡ u → is_some o ≡ r
+    → is_some (cond t (Some x) o) ≡ (u || r)
 found_used true u r x o same rest = rw (← same) refl
 found_used false u r x o same rest = rw (← same) rest
 
-named_used : {A : Type 0} (name_of : A → List ℕ) (name : List ℕ) (xs : List A) → is_some (named_in name_of name xs) ≡ is_used (map name_of xs) name
+named_used : {A : Type 0} (name_of : A → List ℕ) (name : List ℕ) (xs : List A)
+    → is_some (named_in name_of name xs) ≡ is_used (map name_of xs) name
 named_used name_of name [] = refl
 named_used name_of name (x ∷ xs) =
-    found_used (bytes_eq (name_of x) name) (bytes_eq name (name_of x)) (is_used (map name_of xs) name) x (named_in name_of name xs) (bytes_turned (name_of x) name) (named_used name_of name xs)
+    found_used (bytes_eq (name_of x) name) (bytes_eq name (name_of x)) (is_used (map name_of xs) name) x
+    (named_in name_of name xs) (bytes_turned (name_of x) name) (named_used name_of name xs)
 
-used_more : (used : List (List ℕ)) (name other : List ℕ) → is_used (used ++ name ∷ []) other ≡ true → bytes_eq other name ≡ false → is_used used other ≡ true
+used_more : (used : List (List ℕ)) (name other : List ℕ) → is_used (used ++ name ∷ []) other ≡ true
+    → bytes_eq other name ≡ false → is_used used other ≡ true
 used_more [] name other is new = absurd (opposed (bytes_eq other name) (or_none (bytes_eq other name) is) new)
-used_more (u ∷ us) name other is new = one_of (bytes_eq other u) (is_used (us ++ name ∷ []) other) (is_used us other) is (λ h. used_more us name other h new)
+used_more (u ∷ us) name other is new = one_of (bytes_eq other u) (is_used (us ++ name ∷ []) other)
+    (is_used us other) is (λ h. used_more us name other h new)
 
 -- what is used among the second, and not among the first, is an old name
 abbrev Covers : List (List ℕ) → List (List ℕ) → List (List ℕ) → Type 0
 Covers names us vs = (name : List ℕ) → is_used vs name ≡ true → is_used us name ≡ false → is_used names name ≡ true
 
-new_turn : {A : Type 0} (name_of : A → List ℕ) (old : List A) (x : A) (ys : List A) (us vs : List (List ℕ)) (t : Bool) → t ≡ is_new name_of old x → is_used us (name_of x) ≡ false
-    → Covers (map name_of old) us vs → are_fresh name_of (vs ++ name_of x ∷ []) ys ≡ true → are_fresh name_of vs ys ≡ true → are_fresh name_of vs (cond t (x ∷ ys) ys) ≡ true
+new_turn : {A : Type 0} (name_of : A → List ℕ) (old : List A) (x : A) (ys : List A) (us vs : List (List ℕ)) (t : Bool)
+    → t ≡ is_new name_of old x → is_used us (name_of x) ≡ false
+    → Covers (map name_of old) us vs → are_fresh name_of (vs ++ name_of x ∷ []) ys ≡ true
+    → are_fresh name_of vs ys ≡ true → are_fresh name_of vs (cond t (x ∷ ys) ys) ≡ true
 new_turn name_of old x ys us vs true new unused covers with_it without =
-    let other : is_used (map name_of old) (name_of x) ≡ false = sym (named_used name_of (name_of x) old) ∙ not-true (is_some (named_in name_of (name_of x) old)) (sym new) in
-    let own : is_used vs (name_of x) ≡ false = not_true (is_used vs (name_of x)) (λ h. opposed (is_used (map name_of old) (name_of x)) (covers (name_of x) h unused) other) in
+    let other : is_used (map name_of old) (name_of x) ≡ false = sym (named_used name_of (name_of x) old) ∙ not-true
+    (is_some (named_in name_of (name_of x) old)) (sym new) in
+    let own : is_used vs (name_of x) ≡ false = not_true (is_used vs (name_of x))
+    (λ h. opposed (is_used (map name_of old) (name_of x)) (covers (name_of x) h unused) other) in
     rw (own, with_it) refl
 new_turn name_of old x ys us vs false new unused covers with_it without = without
 
-new_fresh : {A : Type 0} (name_of : A → List ℕ) (old more : List A) (us vs : List (List ℕ)) → Covers (map name_of old) us vs → are_fresh name_of us more ≡ true
+new_fresh : {A : Type 0} (name_of : A → List ℕ) (old more : List A) (us vs : List (List ℕ))
+    → Covers (map name_of old) us vs → are_fresh name_of us more ≡ true
     → are_fresh name_of vs (filter (is_new name_of old) more) ≡ true
 new_fresh name_of old [] us vs covers fresh = refl
 new_fresh name_of old (x ∷ xs) us vs covers fresh =
     let a = and_parts (not (is_used us (name_of x))) (are_fresh name_of (us ++ name_of x ∷ []) xs) fresh in
     let n = name_of x in
-    new_turn name_of old x (filter (is_new name_of old) xs) us vs (is_new name_of old x) refl (not-true (is_used us n) a.0) covers
-    (new_fresh name_of old xs (us ++ n ∷ []) (vs ++ n ∷ []) (λ name u f. let p = used_parts us n name f in covers name (used_more vs n name u p.1) p.0) a.1)
+    new_turn name_of old x (filter (is_new name_of old) xs) us vs (is_new name_of old x) refl
+    (not-true (is_used us n) a.0) covers
+    (new_fresh name_of old xs (us ++ n ∷ []) (vs ++ n ∷ [])
+    (λ name u f. let p = used_parts us n name f in covers name (used_more vs n name u p.1) p.0) a.1)
     (new_fresh name_of old xs (us ++ n ∷ []) vs (λ name u f. covers name u (used_parts us n name f).0) a.1)
 
 -- ---- lists that are joined
 
-new_all_turn : {A : Type 0} (good : A → Bool) (x : A) (ys : List A) (t : Bool) → good x ≡ true → list_all good ys ≡ true → list_all good (cond t (x ∷ ys) ys) ≡ true
+new_all_turn : {A : Type 0} (good : A → Bool) (x : A) (ys : List A) (t : Bool) → good x ≡ true
+    → list_all good ys ≡ true → list_all good (cond t (x ∷ ys) ys) ≡ true
 new_all_turn good x ys true here rest = both (good x) (list_all good ys) here rest
 new_all_turn good x ys false here rest = rest
 
-new_all : {A : Type 0} (good : A → Bool) (test : A → Bool) (xs : List A) → list_all good xs ≡ true → list_all good (filter test xs) ≡ true
+new_all : {A : Type 0} (good : A → Bool) (test : A → Bool) (xs : List A) → list_all good xs ≡ true
+    → list_all good (filter test xs) ≡ true
 new_all good test [] all = refl
 new_all good test (x ∷ xs) all =
     let g = and_parts (good x) (list_all good xs) all in
     new_all_turn good x (filter test xs) (test x) g.0 (new_all good test xs g.1)
 
-all_both : {A : Type 0} (good : A → Bool) (xs ys : List A) → list_all good xs ≡ true → list_all good ys ≡ true → list_all good (xs ++ ys) ≡ true
+all_both : {A : Type 0} (good : A → Bool) (xs ys : List A) → list_all good xs ≡ true → list_all good ys ≡ true
+    → list_all good (xs ++ ys) ≡ true
 all_both good [] ys first last = last
 all_both good (x ∷ xs) ys first last =
     let g = and_parts (good x) (list_all good xs) first in
@@ -170,32 +198,63 @@ joined_good name_of good old more p q =
 
 -- ---- specifications
 
-both_good : (specs more : Specs) → are_specs specs ≡ true → are_specs more ≡ true → nat_le (length (both_of specs more).journals) 1024 ≡ true → nat_le (length (both_of specs more).shards) 256 ≡ true
+both_good : (specs more : Specs) → are_specs specs ≡ true → are_specs more ≡ true
+    → nat_le (length (both_of specs more).journals) 1024 ≡ true → nat_le (length (both_of specs more).shards) 256 ≡ true
     → are_specs (both_of specs more) ≡ true
 both_good specs more p q journals shards =
     let a = and_parts (are_journals specs.journals) _ p in
     let b = and_parts (are_shards specs.shards) _ a.1 in
     let c = and_parts (are_journals more.journals) _ q in
     let d = and_parts (are_shards more.shards) _ c.1 in
-    let js = joined_good name_of_journal is_journal specs.journals more.journals (and_parts (nat_le (length specs.journals) 1024) _ a.0).1 (and_parts (nat_le (length more.journals) 1024) _ c.0).1 in
-    let ss = joined_good id_of_shard is_shard specs.shards more.shards (and_parts (nat_le (length specs.shards) 256) _ b.0).1 (and_parts (nat_le (length more.shards) 256) _ d.0).1 in
-    both (are_journals (both_of specs more).journals) _ (both (nat_le (length (both_of specs more).journals) 1024) _ journals js)
-    (both (are_shards (both_of specs more).shards) _ (both (nat_le (length (both_of specs more).shards) 256) _ shards ss) b.1)
+    let js = joined_good name_of_journal is_journal specs.journals more.journals
+    (and_parts (nat_le (length specs.journals) 1024) _ a.0).1 (and_parts (nat_le (length more.journals) 1024) _ c.0).1 in
+    let ss = joined_good id_of_shard is_shard specs.shards more.shards
+    (and_parts (nat_le (length specs.shards) 256) _ b.0).1 (and_parts (nat_le (length more.shards) 256) _ d.0).1 in
+    both (are_journals (both_of specs more).journals) _
+    (both (nat_le (length (both_of specs more).journals) 1024) _ journals js)
+    (both (are_shards (both_of specs more).shards) _
+    (both (nat_le (length (both_of specs more).shards) 256) _ shards ss) b.1)
 
-pub join_is_valid : (specs more out : Specs) → are_specs specs ≡ true → are_specs more ≡ true → join_of specs more ≡ Ok out → are_specs out ≡ true
+-- what was joined is both together, judged as a whole, with neither list too long
+record IsJoined (specs more out : Specs) : Type 0 where
+  judged : IsWhole (both_of specs more) out
+  journals : nat_le (length (both_of specs more).journals) 1024 ≡ true
+  shards : nat_le (length (both_of specs more).shards) 256 ≡ true
+
+join_parts : (specs more out : Specs) → join_of specs more ≡ Ok out → IsJoined specs more out
 unfolding join_of
-join_is_valid specs more out p q is =
+join_parts specs more out is =
+    let both_are = both_of specs more in
     let kept = step (contents_kept specs.journals 0 more.journals) _ out is in
-    let js = step (no_more_than 1024 (codes "journals") (length (both_of specs more).journals)) _ out kept.2 in
-    let ss = step (no_more_than 256 (codes "shards") (length (both_of specs more).shards)) _ out js.2 in
+    let js = step (no_more_than 1024 (codes "journals") (length both_are.journals)) _ out kept.2 in
+    let ss = step (no_more_than 256 (codes "shards") (length both_are.shards)) _ out js.2 in
+    record {
+      judged = whole_good both_are out ss.2;
+      journals = few_good 1024 (codes "journals") (length both_are.journals) js.0 js.1;
+      shards = few_good 256 (codes "shards") (length both_are.shards) ss.0 ss.1;
+    }
+
+pub join_is_valid : (specs more out : Specs) → are_specs specs ≡ true → are_specs more ≡ true
+    → join_of specs more ≡ Ok out → are_specs out ≡ true
+join_is_valid specs more out p q is =
+    let j = join_parts specs more out is in
     let P : Specs → Type 0 = λ s. are_specs s ≡ true in
-    subst P (whole_good (both_of specs more) out ss.2).same
-    (both_good specs more p q (few_good 1024 (codes "journals") (length (both_of specs more).journals) js.0 js.1)
-    (few_good 256 (codes "shards") (length (both_of specs more).shards) ss.0 ss.1))
+    subst P j.judged.same (both_good specs more p q j.journals j.shards)
+
+pub join_is_linked : (specs more out : Specs) → join_of specs more ≡ Ok out
+    → are_linked out.journals out.shards ≡ true
+join_is_linked specs more out is = (join_parts specs more out is).judged.linked
+
+pub join_is_ranked : (specs more out : Specs) → are_specs specs ≡ true → are_specs more ≡ true
+    → join_of specs more ≡ Ok out → (number : List ℕ → ℕ) × AreRanked number out.shards
+join_is_ranked specs more out p q is =
+    whole_is_ranked out (join_is_valid specs more out p q is) (join_parts specs more out is).judged.acyclic
 
 -- joined, with neither list too long
-pub joined_is_valid : (specs more out : Specs) (journals : List JournalSpec) (shards : List ShardSpec) (first last : List ℕ) (u v : Unit {0}) → out ≡ both_of specs more
-    → journals ≡ out.journals → no_more_than 1024 first (length journals) ≡ Ok u → shards ≡ out.shards → no_more_than 256 last (length shards) ≡ Ok v
+pub joined_is_valid : (specs more out : Specs) (journals : List JournalSpec) (shards : List ShardSpec)
+    (first last : List ℕ) (u v : Unit {0}) → out ≡ both_of specs more
+    → journals ≡ out.journals → no_more_than 1024 first (length journals) ≡ Ok u → shards ≡ out.shards
+    → no_more_than 256 last (length shards) ≡ Ok v
     → are_specs specs ≡ true → are_specs more ≡ true → are_specs out ≡ true
 joined_is_valid specs more out journals shards first last u v is js few ss short p q =
     let P : Specs → Type 0 = λ s. are_specs s ≡ true in

@@ -1,25 +1,20 @@
 -- Labels that are printed are read back.
-use Rattle.std.proofs.Common.{◌≡◌, ℕ, ◌+◌, ◌≤◌, ◌&&◌, List, [], ◌∷◌, ◌++◌, map, length, refl, sym, ap, subst, ◌∙◌, append_assoc, append-nil, Bool, true, false, is_lt, is_eq, nat_le, nat_cmp, Ordering, Less, Equal, Greater, Result, Ok, Err, cond, arith}
+use Rattle.std.proofs.Common.{◌≡◌, ℕ, ◌+◌, ◌≤◌, ◌&&◌, List, [], ◌∷◌, ◌++◌, map, length, refl, sym, ap, ◌∙◌, append_assoc, append-nil, Bool, true, false, is_lt, is_eq, nat_le, nat_cmp, Ordering, Less, Equal, Greater, Ok, cond, arith}
 use Rattle.std.specs.Str.{bytes_eq}
 use Rattle.std.specs.List.{list_all}
-use Rattle.std.specs.Ordering.{match_ordering, ordering_then}
 use Rattle.std.specs.Cmp.Lexicographic.{slice_cmp}
 use Rattle.std.proofs.lemmas.Map.Text.{is_eq-slice_cmp}
 use Rattle.std.proofs.lemmas.Slice.Eq.{bytes_eq-Decides}
 use Rattle.std.proofs.lemmas.Grind.{common_steps}
 use Rattle.std.proofs.lemmas.List.{length-append}
-use Rattle.serde_json.specs.Data.{Data, string, array, object, Items, Members, no_members, member, put}
+use Rattle.serde_json.specs.Data.{Data, string, Members, no_members, member, put}
 use Rattle.serde_json.specs.View.{items_of}
-use Rattle.gz_model.specs.Steps.{◌>>=◌}
 use Rattle.gz_label.specs.declared.label.Label.{Label}
 use Rattle.gz_label.specs.Labels.{is_label, is_label_name, is_label_value, is_label_set, label_cmp, comes_before, are_rising, put_label, with_label}
-use Rattle.gz_label.specs.Items.{max_labels, limited}
 use Rattle.gz_label.proofs.Sets.{label_total, less, both_left, both_right, rising_of_set, valid_of_set, few_of_set}
-use Rattle.gz_spec.specs.declared.error.SpecError.{SpecError}
 use Rattle.gz_spec.specs.Paths.{below, at_place}
-use Rattle.gz_spec.specs.Form.{found, named}
 use Rattle.gz_spec.specs.Labels.{label_at, labels_from, labels_named, all_labels, fitting, put_each, labels_in}
-use Rattle.gz_spec.specs.Printed.{list_data, values_in_front, with_first, label_members, labels_data}
+use Rattle.gz_spec.specs.Printed.{list_data, values_in_front, label_members, labels_data}
 
 -- ---- texts
 

@@ -15,3 +15,4 @@ pub mod Used
 pub mod Ranks
 pub mod Whole
 pub mod Joining
+pub mod Climbs

@@ -1,5 +1,5 @@
 -- Shards none of which reaches itself are ranked: by how many reach them.
-use Rattle.std.proofs.Common.{◌≡◌, ℕ, zero, suc, ◌+◌, ◌<◌, ◌≤◌, inl, inr, List, [], ◌∷◌, ◌++◌, length, refl, sym, ap, ◌∙◌, subst, cond, arith, Option, Some, Bool, true, false, not, slice_get}
+use Rattle.std.proofs.Common.{◌≡◌, ℕ, zero, suc, ◌<◌, ◌≤◌, inl, inr, List, [], ◌∷◌, ◌++◌, length, refl, sym, ap, ◌∙◌, subst, cond, arith, Option, Some, Bool, true, false, not, slice_get}
 use Rattle.std.specs.List.{IsAmong}
 use Rattle.std.specs.Str.{bytes_eq}
 use Rattle.std.proofs.lemmas.Bool.{cases_order, and_parts, not-true}
@@ -35,7 +35,8 @@ count_le f g more zero = omega arith
 count_le f g more (suc n) = one_le (f n) (g n) (count_below f n) (count_below g n) (more n) (count_le f g more n)
 
 -- where the second test passes a place more, it counts more
-count_lt : (f g : ℕ → Bool) → ((k : ℕ) → f k ≡ true → g k ≡ true) → (i : ℕ) → f i ≡ false → g i ≡ true → (n : ℕ) → i < n → count_below f n < count_below g n
+count_lt : (f g : ℕ → Bool) → ((k : ℕ) → f k ≡ true → g k ≡ true) → (i : ℕ) → f i ≡ false → g i ≡ true → (n : ℕ)
+    → i < n → count_below f n < count_below g n
 count_lt f g more i out here zero below = absurd (omega arith)
 count_lt f g more i out here (suc n) below =
     elim (cases_order i n) [
@@ -65,7 +66,8 @@ same_some : (a b : ShardSpec) → (let o : Option ShardSpec = Some a in o ≡ So
 same_some a b is = cc
 
 -- a shard behind used ids has none of them
-fresh_id : (used : List (List ℕ)) (ss : List ShardSpec) (i : ℕ) (s : ShardSpec) → are_fresh id_of_shard used ss ≡ true → slice_get ss i ≡ Some s → is_used used s.id ≡ false
+fresh_id : (used : List (List ℕ)) (ss : List ShardSpec) (i : ℕ) (s : ShardSpec) → are_fresh id_of_shard used ss ≡ true
+    → slice_get ss i ≡ Some s → is_used used s.id ≡ false
 fresh_id used [] i s fresh at = absurd (cc)
 fresh_id used (t ∷ ts) zero s fresh at =
     let a = and_parts (not (is_used used t.id)) (are_fresh id_of_shard (used ++ t.id ∷ []) ts) fresh in
@@ -76,7 +78,8 @@ fresh_id used (t ∷ ts) (suc i) s fresh at =
     (used_parts used t.id s.id (fresh_id (used ++ t.id ∷ []) ts i s a.1 at)).0
 
 -- the place of a shard's id is its own, since no two have one id
-place_is : (used : List (List ℕ)) (ss : List ShardSpec) (i : ℕ) (s : ShardSpec) → are_fresh id_of_shard used ss ≡ true → slice_get ss i ≡ Some s → place_of s.id ss ≡ i
+place_is : (used : List (List ℕ)) (ss : List ShardSpec) (i : ℕ) (s : ShardSpec) → are_fresh id_of_shard used ss ≡ true
+    → slice_get ss i ≡ Some s → place_of s.id ss ≡ i
 place_is used [] i s fresh at = absurd (cc)
 place_is used (t ∷ ts) zero s fresh at =
     let P : ShardSpec → Type 0 = λ u. place_of u.id (t ∷ ts) ≡ 0 in
@@ -95,31 +98,39 @@ rank_at shards i = count_below (λ k. reach (feeds_at shards) (length shards) k 
 abbrev pub rank : List ShardSpec → List ℕ → ℕ
 rank shards id = rank_at shards (place_of id shards)
 
-not_itself : (shards : List ShardSpec) (i : ℕ) → (Reaches shards i i → ⊥) → reach (feeds_at shards) (length shards) i i ≡ false
-not_itself shards i none = not_true (reach (feeds_at shards) (length shards) i i) (λ h. none (sound shards (length shards) i i h))
+not_itself : (shards : List ShardSpec) (i : ℕ) → (Reaches shards i i → ⊥)
+    → reach (feeds_at shards) (length shards) i i ≡ false
+not_itself shards i none = not_true (reach (feeds_at shards) (length shards) i i)
+    (λ h. none (sound shards (length shards) i i h))
 
-rank_rises : (shards : List ShardSpec) (i j : ℕ) → ((k : ℕ) → Reaches shards k k → ⊥) → i < length shards → feeds_at shards i j ≡ true → rank_at shards i < rank_at shards j
+rank_rises : (shards : List ShardSpec) (i j : ℕ) → ((k : ℕ) → Reaches shards k k → ⊥) → i < length shards
+    → feeds_at shards i j ≡ true → rank_at shards i < rank_at shards j
 rank_rises shards i j none within fed =
     let n = length shards in
     let e = reach (feeds_at shards) n in
-    count_lt (λ k. e k i) (λ k. e k j) (λ k h. complete shards k j (chain shards k i j (sound shards n k i h) (next i j fed)))
+    count_lt (λ k. e k i) (λ k. e k j)
+    (λ k h. complete shards k j (chain shards k i j (sound shards n k i h) (next i j fed)))
     i (not_itself shards i (none i)) (complete shards i j (next i j fed)) n within
 
-rank_below : (shards : List ShardSpec) (i : ℕ) → (Reaches shards i i → ⊥) → i < length shards → rank_at shards i < length shards
+rank_below : (shards : List ShardSpec) (i : ℕ) → (Reaches shards i i → ⊥) → i < length shards
+    → rank_at shards i < length shards
 rank_below shards i none within =
     let n = length shards in
-    let less = count_lt (λ k. reach (feeds_at shards) n k i) (λ k. true) (λ k h. refl) i (not_itself shards i none) refl n within in
+    let less = count_lt (λ k. reach (feeds_at shards) n k i) (λ k. true) (λ k h. refl) i
+    (not_itself shards i none) refl n within in
     let all : count_below (λ k. true) n ≡ n = count_any n in
     omega (arith, less, all)
 
 at_of : (shards : List ShardSpec) (s : ShardSpec) (a : IsAmong shards s) → slice_get shards a.0 ≡ Some s
 at_of shards s a = slice_get_read shards (length shards) a.0 s refl a.1.0 a.1.1
 
-fed_at : (shards : List ShardSpec) (i j : ℕ) (s t : ShardSpec) → slice_get shards i ≡ Some s → slice_get shards j ≡ Some t → feeds s t ≡ true → feeds_at shards i j ≡ true
+fed_at : (shards : List ShardSpec) (i j : ℕ) (s t : ShardSpec) → slice_get shards i ≡ Some s
+    → slice_get shards j ≡ Some t → feeds s t ≡ true → feeds_at shards i j ≡ true
 fed_at shards i j s t p q fed = rw (p, q) fed
 
 -- shards of ids of their own, none of which reaches itself
-pub ranked : (shards : List ShardSpec) → are_fresh id_of_shard [] shards ≡ true → ((k : ℕ) → Reaches shards k k → ⊥) → AreRanked (rank shards) shards
+pub ranked : (shards : List ShardSpec) → are_fresh id_of_shard [] shards ≡ true → ((k : ℕ) → Reaches shards k k → ⊥)
+    → AreRanked (rank shards) shards
 ranked shards fresh none = record {
   rises = λ s t a b fed.
       let p = at_of shards s a in

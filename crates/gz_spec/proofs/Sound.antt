@@ -36,10 +36,12 @@ pub passed : (t : Bool) (e : SpecError) (u : Unit {0}) → (cond t (Err e) (Ok t
 passed true e u is = absurd (cc)
 passed false e u is = refl
 
-unused_good : (path : List ℕ) (used : List (List ℕ)) (name : List ℕ) (u : Unit {0}) → unused path used name ≡ Ok u → is_used used name ≡ false
+unused_good : (path : List ℕ) (used : List (List ℕ)) (name : List ℕ) (u : Unit {0}) → unused path used name ≡ Ok u
+    → is_used used name ≡ false
 unused_good path used name u is = passed (is_used used name) (Twice path) u is
 
-pub few_good : (most : ℕ) (path : List ℕ) (n : ℕ) (u : Unit {0}) → no_more_than most path n ≡ Ok u → nat_le n most ≡ true
+pub few_good : (most : ℕ) (path : List ℕ) (n : ℕ) (u : Unit {0}) → no_more_than most path n ≡ Ok u
+    → nat_le n most ≡ true
 few_good most path n u is = (chosen (nat_le n most) tt u (BadNumber path) is).0
 
 not_zero : (n : ℕ) → nat_eq n 0 ≡ false → nat_le 1 n ≡ true
@@ -57,19 +59,23 @@ fresh_one used is = rw is refl
 -- ---- lists
 
 -- as many as are read, each good, and no two of one name
-record AreRead {A : Type 0} (name_of : A → List ℕ) (good : A → Bool) (used : List (List ℕ)) (n : ℕ) (xs : List A) : Type 0 where
+record AreRead {A : Type 0} (name_of : A → List ℕ) (good : A → Bool) (used : List (List ℕ)) (n : ℕ)
+    (xs : List A) : Type 0 where
   many : length xs ≡ n
   all : list_all good xs ≡ true
   fresh : are_fresh name_of used xs ≡ true
 
 each_good : {A : Type 0} (read : List ℕ → List (List ℕ) → Data → Result A SpecError) (name_of : A → List ℕ) (good : A → Bool)
-    → ((path : List ℕ) (used : List (List ℕ)) (d : Data) (a : A) → read path used d ≡ Ok a → (good a ≡ true) × (is_used used (name_of a) ≡ false))
-    → (ds : Items) (path : List ℕ) (i : ℕ) (used : List (List ℕ)) (xs : List A) → each read name_of path i used ds ≡ Ok xs → AreRead name_of good used (count ds) xs
+    → ((path : List ℕ) (used : List (List ℕ)) (d : Data) (a : A) → read path used d ≡ Ok a → (good a ≡ true) ×
+    (is_used used (name_of a) ≡ false))
+    → (ds : Items) (path : List ℕ) (i : ℕ) (used : List (List ℕ)) (xs : List A)
+    → each read name_of path i used ds ≡ Ok xs → AreRead name_of good used (count ds) xs
 each_good {A} read name_of good one no_items path i used xs is =
     let P : List A → Type 0 = λ ys. AreRead name_of good used 0 ys in
     subst P (same_ok [] xs is) (record { many = refl; all = refl; fresh = refl })
 each_good {A} read name_of good one (item d ds) path i used xs is =
-    let r = step (read (at_place path i) used d) (λ a. each read name_of path (i + 1) (used ++ name_of a ∷ []) ds >>= λ rest. Ok (a ∷ rest)) xs is in
+    let r = step (read (at_place path i) used d)
+    (λ a. each read name_of path (i + 1) (used ++ name_of a ∷ []) ds >>= λ rest. Ok (a ∷ rest)) xs is in
     let s = step (each read name_of path (i + 1) (used ++ name_of r.0 ∷ []) ds) (λ rest. Ok (r.0 ∷ rest)) xs r.2 in
     let here = one (at_place path i) used d r.0 r.1 in
     let more = each_good read name_of good one ds path (i + 1) (used ++ name_of r.0 ∷ []) s.0 s.1 in
@@ -77,12 +83,14 @@ each_good {A} read name_of good one (item d ds) path i used xs is =
     subst P (same_ok (r.0 ∷ s.0) xs s.2) (record {
       many = ap (λ (n : ℕ). suc n) more.many;
       all = both (good r.0) (list_all good s.0) here.0 more.all;
-      fresh = both (not (is_used used (name_of r.0))) (are_fresh name_of (used ++ name_of r.0 ∷ []) s.0) (fresh_one (is_used used (name_of r.0)) here.1) more.fresh;
+      fresh = both (not (is_used used (name_of r.0))) (are_fresh name_of (used ++ name_of r.0 ∷ []) s.0)
+          (fresh_one (is_used used (name_of r.0)) here.1) more.fresh;
     })
 
 -- ---- shards
 
-source_good : (path : List ℕ) (used : List (List ℕ)) (d : Data) (s : SourceSpec) → next_source path used d ≡ Ok s → (is_source s ≡ true) × (is_used used s.journal ≡ false)
+source_good : (path : List ℕ) (used : List (List ℕ)) (d : Data) (s : SourceSpec) → next_source path used d ≡ Ok s
+    → (is_source s ≡ true) × (is_used used s.journal ≡ false)
 unfolding next_source
 source_good path used d s is =
     let h = step (has_only path source_members d) _ s is in
@@ -106,28 +114,36 @@ sources_good path d ss is =
     let read = each_good next_source journal_named is_source source_good items.0 p 0 [] ss few.2 in
     let P : ℕ → Type 0 = λ n. is_between 1 16 n ≡ true in
     let many : is_between 1 16 (length ss) ≡ true =
-    subst P (sym read.many) (both (nat_le 1 (count items.0)) (nat_le (count items.0) 16) (some_good p (count items.0) some.0 some.1) (few_good 16 p (count items.0) few.0 few.1)) in
-    both (is_between 1 16 (length ss)) _ many (both (list_all is_source ss) (are_fresh journal_named [] ss) read.all read.fresh)
+    subst P (sym read.many) (both (nat_le 1 (count items.0)) (nat_le (count items.0) 16)
+    (some_good p (count items.0) some.0 some.1) (few_good 16 p (count items.0) few.0 few.1)) in
+    both (is_between 1 16 (length ss)) _ many
+    (both (list_all is_source ss) (are_fresh journal_named [] ss) read.all read.fresh)
 
-several_good : (path : List ℕ) (n : ℕ) (u : Unit {0}) → (not_empty path n >>= λ _. no_more_than 8 path n) ≡ Ok u → is_between 1 8 n ≡ true
+several_good : (path : List ℕ) (n : ℕ) (u : Unit {0}) → (not_empty path n >>= λ _. no_more_than 8 path n) ≡ Ok u
+    → is_between 1 8 n ≡ true
 several_good path n u is =
     let s = step (not_empty path n) (λ _. no_more_than 8 path n) u is in
     both (nat_le 1 n) (nat_le n 8) (some_good path n s.0 s.1) (few_good 8 path n u s.2)
 
-outputs_good : (path : List ℕ) (n : ℕ) (app : App) (u : Unit {0}) → outputs_fit path n app ≡ Ok u → app_takes n (Some app) ≡ true
+outputs_good : (path : List ℕ) (n : ℕ) (app : App) (u : Unit {0}) → outputs_fit path n app ≡ Ok u
+    → app_takes n (Some app) ≡ true
 outputs_good path n Count u is = several_good path n u is
 outputs_good path n Relay u is = several_good path n u is
 outputs_good path n Latest u is = (chosen (nat_eq n 0) tt u (BadField path) is).0
 
-app_good : (path : List ℕ) (n : ℕ) (app : Option App) (u : Unit {0}) → (found path app >>= λ a. outputs_fit path n a) ≡ Ok u → app_takes n app ≡ true
+app_good : (path : List ℕ) (n : ℕ) (app : Option App) (u : Unit {0})
+    → (found path app >>= λ a. outputs_fit path n a) ≡ Ok u → app_takes n app ≡ true
 app_good path n None u is = absurd (cc)
 app_good path n (Some app) u is = outputs_good path n app u is
 
-shard_labels_good : (path : List ℕ) (ls : List Label) (u : Unit {0}) → labels_fit path ls ≡ Ok u → are_shard_labels ls ≡ true
+shard_labels_good : (path : List ℕ) (ls : List Label) (u : Unit {0}) → labels_fit path ls ≡ Ok u
+    → are_shard_labels ls ≡ true
 unfolding labels_fit
-shard_labels_good path ls u is = app_good path (length (values_of (codes "output") ls)) (app_of (values_of (codes "app") ls)) u is
+shard_labels_good path ls u is = app_good path (length (values_of (codes "output") ls))
+    (app_of (values_of (codes "app") ls)) u is
 
-prefix_good : (path : List ℕ) (o : Option Data) (name : List ℕ) → name_if is_hint_prefix (codes "hint") path o ≡ Ok name → is_hint_prefix name ≡ true
+prefix_good : (path : List ℕ) (o : Option Data) (name : List ℕ)
+    → name_if is_hint_prefix (codes "hint") path o ≡ Ok name → is_hint_prefix name ≡ true
 unfolding is_hint_prefix is_id
 prefix_good path None name is = ap is_hint_prefix (sym (same_ok (codes "hint") name is)) ∙ refl
 prefix_good path (Some d) name is = (
@@ -136,7 +152,8 @@ prefix_good path (Some d) name is = (
     )
 
 -- the id of a shard that was read is the one that was given, and all that follows it is good
-shard_with_good : (path id : List ℕ) (d : Data) (s : ShardSpec) → is_id id ≡ true → shard_with path id d ≡ Ok s → (is_shard s ≡ true) × (s.id ≡ id)
+shard_with_good : (path id : List ℕ) (d : Data) (s : ShardSpec) → is_id id ≡ true → shard_with path id d ≡ Ok s
+    → (is_shard s ≡ true) × (s.id ≡ id)
 unfolding shard_with
 shard_with_good path id d s good is =
     let us = step (sources_at path d) _ s is in
@@ -152,10 +169,16 @@ shard_with_good path id d s good is =
       both (is_id id) _ good
           (both (are_sources us.0) _ (sources_good path d us.0 us.1)
           (both (is_journal_name log.0) _ (name_good is_journal_name path (codes "recovery_log_prefix") log.0 d log.1)
-          (both (is_hint_prefix hint.0) _ (prefix_good (below path (codes "hint_prefix")) (get (codes "hint_prefix") d) hint.0 hint.1)
-          (both (is_between 0 4 backups.0) _ (number_or_good 0 0 4 (below path (codes "hint_backups")) (get (codes "hint_backups") d) backups.0 refl backups.1)
-          (both (is_between 0 4 standbys.0) _ (number_or_good 0 0 4 (below path (codes "hot_standbys")) (get (codes "hot_standbys") d) standbys.0 refl standbys.1)
-          (both (is_label_set labels.0) (are_shard_labels labels.0) (labels_good (below path (codes "labels")) (get (codes "labels") d) labels.0 labels.1)
+          (both (is_hint_prefix hint.0) _
+          (prefix_good (below path (codes "hint_prefix")) (get (codes "hint_prefix") d) hint.0 hint.1)
+          (both (is_between 0 4 backups.0) _
+          (number_or_good 0 0 4 (below path (codes "hint_backups"))
+          (get (codes "hint_backups") d) backups.0 refl backups.1)
+          (both (is_between 0 4 standbys.0) _
+          (number_or_good 0 0 4 (below path (codes "hot_standbys"))
+          (get (codes "hot_standbys") d) standbys.0 refl standbys.1)
+          (both (is_label_set labels.0) (are_shard_labels labels.0)
+          (labels_good (below path (codes "labels")) (get (codes "labels") d) labels.0 labels.1)
           (shard_labels_good (below path (codes "labels")) labels.0 fit.0 fit.1))))))),
       refl,
     )
@@ -167,7 +190,8 @@ shard_at_good path d s is =
     let n = step (name_at is_id path (codes "id") d) _ s h.2 in
     (shard_with_good path n.0 d s (name_good is_id path (codes "id") n.0 d n.1) n.2).0
 
-next_shard_good : (path : List ℕ) (used : List (List ℕ)) (d : Data) (s : ShardSpec) → next_shard path used d ≡ Ok s → (is_shard s ≡ true) × (is_used used s.id ≡ false)
+next_shard_good : (path : List ℕ) (used : List (List ℕ)) (d : Data) (s : ShardSpec) → next_shard path used d ≡ Ok s
+    → (is_shard s ≡ true) × (is_used used s.id ≡ false)
 unfolding next_shard
 next_shard_good path used d s is =
     let h = step (has_only path shard_members d) _ s is in
@@ -184,7 +208,8 @@ shard_is_valid bytes s is =
 
 -- ---- journals and members
 
-next_journal_good : (path : List ℕ) (used : List (List ℕ)) (d : Data) (j : JournalSpec) → next_journal path used d ≡ Ok j → (is_journal j ≡ true) × (is_used used j.name ≡ false)
+next_journal_good : (path : List ℕ) (used : List (List ℕ)) (d : Data) (j : JournalSpec)
+    → next_journal path used d ≡ Ok j → (is_journal j ≡ true) × (is_used used j.name ≡ false)
 unfolding next_journal
 next_journal_good path used d j is =
     let h = step (has_only path journal_members d) _ j is in
@@ -193,12 +218,14 @@ next_journal_good path used d j is =
     let good = journal_with_good path n.0 d j (name_good is_journal_name path (codes "name") n.0 d n.1) u.2 in
     (good.0, ap (is_used used) good.1 ∙ unused_good (below path (codes "name")) used n.0 u.0 u.1)
 
-limit_good : (path : List ℕ) (d : Data) (n : ℕ) → number_at 0 1024 path (codes "limit") d ≡ Ok n → is_between 0 1024 n ≡ true
+limit_good : (path : List ℕ) (d : Data) (n : ℕ) → number_at 0 1024 path (codes "limit") d ≡ Ok n
+    → is_between 0 1024 n ≡ true
 limit_good path d n is =
     let s = step (found (below path (codes "limit")) (get (codes "limit") d)) _ n is in
     number_good 0 1024 (below path (codes "limit")) s.0 n s.2
 
-member_with_good : (path id : List ℕ) (d : Data) (m : MemberSpec) → is_id id ≡ true → is_reserved id ≡ false → member_with path id d ≡ Ok m → (is_member m ≡ true) × (m.id ≡ id)
+member_with_good : (path id : List ℕ) (d : Data) (m : MemberSpec) → is_id id ≡ true → is_reserved id ≡ false
+    → member_with path id d ≡ Ok m → (is_member m ≡ true) × (m.id ≡ id)
 unfolding member_with
 member_with_good path id d m good free is =
     let zone = step (name_at is_id path (codes "zone") d) _ m is in
@@ -207,11 +234,13 @@ member_with_good path id d m good free is =
     subst P (same_ok _ m limit.2) (
       both (is_id id) _ good
           (both (not (is_reserved id)) _ (fresh_one (is_reserved id) free)
-          (both (is_id zone.0) (is_between 0 1024 limit.0) (name_good is_id path (codes "zone") zone.0 d zone.1) (limit_good path d limit.0 limit.1))),
+          (both (is_id zone.0) (is_between 0 1024 limit.0) (name_good is_id path (codes "zone") zone.0 d zone.1)
+          (limit_good path d limit.0 limit.1))),
       refl,
     )
 
-next_member_good : (path : List ℕ) (used : List (List ℕ)) (d : Data) (m : MemberSpec) → next_member path used d ≡ Ok m → (is_member m ≡ true) × (is_used used m.id ≡ false)
+next_member_good : (path : List ℕ) (used : List (List ℕ)) (d : Data) (m : MemberSpec) → next_member path used d ≡ Ok m
+    → (is_member m ≡ true) × (is_used used m.id ≡ false)
 unfolding next_member
 next_member_good path used d m is =
     let h = step (has_only path member_names d) _ m is in
@@ -229,7 +258,8 @@ unfolding journals_in
 journals_good d js is =
     let items = step (items_or_none [] (codes "journals") d) _ js is in
     let few = step (no_more_than 1024 (codes "journals") (count items.0)) _ js items.2 in
-    let read = each_good next_journal name_of_journal is_journal next_journal_good items.0 (codes "journals") 0 [] js few.2 in
+    let read = each_good next_journal name_of_journal is_journal next_journal_good items.0
+    (codes "journals") 0 [] js few.2 in
     let P : ℕ → Type 0 = λ n. nat_le n 1024 ≡ true in
     both (nat_le (length js) 1024) _ (subst P (sym read.many) (few_good 1024 (codes "journals") (count items.0) few.0 few.1))
     (both (list_all is_journal js) (are_fresh name_of_journal [] js) read.all read.fresh)
@@ -244,14 +274,16 @@ shards_good d ss is =
     both (nat_le (length ss) 256) _ (subst P (sym read.many) (few_good 256 (codes "shards") (count items.0) few.0 few.1))
     (both (list_all is_shard ss) (are_fresh id_of_shard [] ss) read.all read.fresh)
 
-members_good : (name : List ℕ) (used : List (List ℕ)) (d : Data) (ms : List MemberSpec) → members_in name used d ≡ Ok ms → are_members used ms ≡ true
+members_good : (name : List ℕ) (used : List (List ℕ)) (d : Data) (ms : List MemberSpec)
+    → members_in name used d ≡ Ok ms → are_members used ms ≡ true
 unfolding members_in
 members_good name used d ms is =
     let items = step (items_or_none [] name d) _ ms is in
     let few = step (no_more_than 64 name (length used + count items.0)) _ ms items.2 in
     let read = each_good next_member id_of_member is_member next_member_good items.0 name 0 used ms few.2 in
     let P : ℕ → Type 0 = λ n. nat_le (length used + n) 64 ≡ true in
-    both (nat_le (length used + length ms) 64) _ (subst P (sym read.many) (few_good 64 name (length used + count items.0) few.0 few.1))
+    both (nat_le (length used + length ms) 64) _
+    (subst P (sym read.many) (few_good 64 name (length used + count items.0) few.0 few.1))
     (both (list_all is_member ms) (are_fresh id_of_member used ms) read.all read.fresh)
 
 pub part_in_good : (d : Data) (specs : Specs) → part_in d ≡ Ok specs → are_specs specs ≡ true

@@ -1,10 +1,10 @@
 -- Specifications that are printed are read back.
-use Rattle.std.proofs.Common.{◌≡◌, ℕ, suc, ◌+◌, ◌≤◌, ◌&&◌, ◌==◌, ◌^◌, List, [], ◌∷◌, ◌++◌, map, length, refl, sym, ap, ◌∙◌, Bool, true, false, not, nat_le, nat_eq, Result, Ok, Err, Option, Some, None, arith}
+use Rattle.std.proofs.Common.{◌≡◌, ℕ, suc, ◌+◌, ◌≤◌, ◌^◌, List, [], ◌∷◌, ◌++◌, map, length, refl, ap, Bool, true, false, not, nat_le, nat_eq, Result, Ok, Option, Some, None, arith}
 use Rattle.std.specs.Prelude.{codes}
 use Rattle.std.specs.List.{list_all}
 use Rattle.std.proofs.lemmas.Bool.{and_parts, not-true}
 use Rattle.std.proofs.lemmas.Grind.{common_steps}
-use Rattle.serde_json.specs.Data.{Data, string, Items, no_items, item, depth}
+use Rattle.serde_json.specs.Data.{Data, depth}
 use Rattle.serde_json.specs.View.{items_of}
 use Rattle.serde_json.specs.Read.{max_depth}
 use Rattle.gz_model.specs.Steps.{◌>>=◌}
@@ -22,13 +22,12 @@ use Rattle.gz_spec.specs.declared.cluster.Specs.{Specs}
 use Rattle.gz_spec.specs.Paths.{below, at_place}
 use Rattle.gz_spec.specs.Names.{is_id, is_reserved, is_journal_name, is_hint_prefix}
 use Rattle.gz_spec.specs.Form.{found}
-use Rattle.gz_spec.specs.Labels.{labels_in}
 use Rattle.gz_spec.specs.Lists.{count, no_more_than, is_used, each}
 use Rattle.gz_spec.specs.Journals.{fragment_in, journal_with, journal_at, next_journal, journal_of}
 use Rattle.gz_spec.specs.Shards.{next_source, journal_named, not_empty, sources_at, app_of, outputs_fit, labels_fit, shard_with, shard_at, next_shard, shard_of}
 use Rattle.gz_spec.specs.Members.{member_with, next_member}
 use Rattle.gz_spec.specs.Specs.{name_of_journal, id_of_shard, id_of_member, journals_in, shards_in, members_in, part_in, part_of, whole, specs_of}
-use Rattle.gz_spec.specs.Printed.{labels_data, fragment_data, journal_data, source_data, shard_data, member_data, specs_data}
+use Rattle.gz_spec.specs.Printed.{fragment_data, journal_data, source_data, shard_data, member_data, specs_data}
 use Rattle.gz_spec.specs.Valid.{is_between, are_fresh, is_journal, is_source, app_takes, are_shard_labels, are_sources, is_shard, is_member, are_journals, are_shards, are_members, are_specs}
 use Rattle.gz_spec.proofs.LabelsBack.{labels_back}
 use Rattle.gz_spec.proofs.Depths.{journal_nests, shard_nests, specs_nest}

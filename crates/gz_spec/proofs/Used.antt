@@ -33,8 +33,12 @@ right_false true b none = absurd (cc)
 neither : (a b : Bool) → a ≡ false → b ≡ false → (a || b) ≡ false
 neither a b f g = rw (f, g) refl
 
-pub used_parts : (used : List (List ℕ)) (name other : List ℕ) → is_used (used ++ name ∷ []) other ≡ false → (is_used used other ≡ false) × (bytes_eq other name ≡ false)
+pub used_parts : (used : List (List ℕ)) (name other : List ℕ) → is_used (used ++ name ∷ []) other ≡ false
+    → (is_used used other ≡ false) × (bytes_eq other name ≡ false)
 used_parts [] name other none = (refl, left_false (bytes_eq other name) false none)
 used_parts (u ∷ us) name other none =
-    let b = used_parts us name other (right_false (bytes_eq other u) (is_used (us ++ name ∷ []) other) none) in
-    (neither (bytes_eq other u) (is_used us other) (left_false (bytes_eq other u) (is_used (us ++ name ∷ []) other) none) b.0, b.1)
+    let b = used_parts us name other (right_false (bytes_eq other u) (is_used (us ++ name ∷ []) other) none) in (
+      neither (bytes_eq other u) (is_used us other)
+          (left_false (bytes_eq other u) (is_used (us ++ name ∷ []) other) none) b.0,
+      b.1,
+    )

@@ -21,32 +21,41 @@ use Rattle.gz_spec.proofs.Ranks.{rank, ranked}
 
 -- ---- the journals that shards name
 
-one_passed : (t : Bool) (r : Result (Unit {0}) SpecError) (e : SpecError) (u : Unit {0}) → cond t r (Err e) ≡ Ok u → (t ≡ true) × (r ≡ Ok u)
+one_passed : (t : Bool) (r : Result (Unit {0}) SpecError) (e : SpecError) (u : Unit {0}) → cond t r (Err e) ≡ Ok u
+    → (t ≡ true) × (r ≡ Ok u)
 one_passed true r e u is = (refl, is)
 one_passed false r e u is = absurd (cc)
 
-sources_good : (journals : List JournalSpec) (path : List ℕ) (k : ℕ) (ss : List SourceSpec) (u : Unit {0}) → sources_linked journals path k ss ≡ Ok u
+sources_good : (journals : List JournalSpec) (path : List ℕ) (k : ℕ) (ss : List SourceSpec) (u : Unit {0})
+    → sources_linked journals path k ss ≡ Ok u
     → list_all (λ s. is_readable (held journals s.journal)) ss ≡ true
 sources_good journals path k [] u is = refl
 sources_good journals path k (s ∷ ss) u is =
-    let c = one_passed (is_readable (held journals s.journal)) (sources_linked journals path (k + 1) ss) (NoJournal (at_place path k)) u is in
-    both (is_readable (held journals s.journal)) (list_all (λ t. is_readable (held journals t.journal)) ss) c.0 (sources_good journals path (k + 1) ss u c.1)
+    let c = one_passed (is_readable (held journals s.journal)) (sources_linked journals path (k + 1) ss)
+    (NoJournal (at_place path k)) u is in
+    both (is_readable (held journals s.journal)) (list_all (λ t. is_readable (held journals t.journal)) ss) c.0
+    (sources_good journals path (k + 1) ss u c.1)
 
-shard_good : (journals : List JournalSpec) (path : List ℕ) (s : ShardSpec) (u : Unit {0}) → shard_linked journals path s ≡ Ok u → is_linked journals s ≡ true
+shard_good : (journals : List JournalSpec) (path : List ℕ) (s : ShardSpec) (u : Unit {0})
+    → shard_linked journals path s ≡ Ok u → is_linked journals s ≡ true
 unfolding shard_linked
 shard_good journals path s u is =
     let a = step (sources_linked journals (below path (codes "sources")) 0 s.sources) _ u is in
     let b = step (log_linked journals path s) _ u a.2 in
-    both (list_all (λ t. is_readable (held journals t.journal)) s.sources) _ (sources_good journals (below path (codes "sources")) 0 s.sources a.0 a.1)
+    both (list_all (λ t. is_readable (held journals t.journal)) s.sources) _
+    (sources_good journals (below path (codes "sources")) 0 s.sources a.0 a.1)
     (both (is_log (held journals (log_name s))) (list_all (λ o. is_lines (held journals o)) (outputs_of s))
     (chosen (is_log (held journals (log_name s))) tt b.0 (NoJournal (below path (codes "recovery_log_prefix"))) b.1).0
-    (chosen (list_all (λ o. is_lines (held journals o)) (outputs_of s)) tt u (NoJournal (below path (codes "labels"))) b.2).0)
+    (chosen (list_all (λ o. is_lines (held journals o)) (outputs_of s)) tt u
+    (NoJournal (below path (codes "labels"))) b.2).0)
 
-all_good : (journals : List JournalSpec) (i : ℕ) (ss : List ShardSpec) (u : Unit {0}) → all_linked journals i ss ≡ Ok u → are_linked journals ss ≡ true
+all_good : (journals : List JournalSpec) (i : ℕ) (ss : List ShardSpec) (u : Unit {0})
+    → all_linked journals i ss ≡ Ok u → are_linked journals ss ≡ true
 all_good journals i [] u is = refl
 all_good journals i (s ∷ ss) u is =
     let a = step (shard_linked journals (at_place (codes "shards") i) s) (λ _. all_linked journals (i + 1) ss) u is in
-    both (is_linked journals s) (are_linked journals ss) (shard_good journals (at_place (codes "shards") i) s a.0 a.1) (all_good journals (i + 1) ss u a.2)
+    both (is_linked journals s) (are_linked journals ss) (shard_good journals (at_place (codes "shards") i) s a.0 a.1)
+    (all_good journals (i + 1) ss u a.2)
 
 -- ---- shards none of which reaches itself
 
@@ -79,17 +88,21 @@ whole_good specs out is =
     })
 
 ids_fresh : (shards : List ShardSpec) → are_shards shards ≡ true → are_fresh id_of_shard [] shards ≡ true
-ids_fresh shards good = (and_parts (list_all is_shard shards) (are_fresh id_of_shard [] shards) (and_parts (nat_le (length shards) 256) _ good).1).1
+ids_fresh shards good = (and_parts (list_all is_shard shards) (are_fresh id_of_shard [] shards)
+    (and_parts (nat_le (length shards) 256) _ good).1).1
 
 shards_of : (specs : Specs) → are_specs specs ≡ true → are_shards specs.shards ≡ true
 shards_of specs good = (and_parts (are_shards specs.shards) _ (and_parts (are_journals specs.journals) _ good).1).0
 
-pub whole_is_ranked : (specs : Specs) → are_specs specs ≡ true → first_cycle specs.shards ≡ None → (number : List ℕ → ℕ) × AreRanked number specs.shards
-whole_is_ranked specs good none = (rank specs.shards, ranked specs.shards (ids_fresh specs.shards (shards_of specs good)) (none_reaches specs.shards none))
+pub whole_is_ranked : (specs : Specs) → are_specs specs ≡ true → first_cycle specs.shards ≡ None
+    → (number : List ℕ → ℕ) × AreRanked number specs.shards
+whole_is_ranked specs good none =
+    (rank specs.shards, ranked specs.shards (ids_fresh specs.shards (shards_of specs good)) (none_reaches specs.shards none))
 
 -- ---- specifications that were read
 
-read_parts : (bytes : List ℕ) (specs : Specs) → specs_of bytes ≡ Ok specs → (are_specs specs ≡ true) × IsWhole specs specs
+read_parts : (bytes : List ℕ) (specs : Specs) → specs_of bytes ≡ Ok specs
+    → (are_specs specs ≡ true) × IsWhole specs specs
 unfolding specs_of
 read_parts bytes specs is =
     let a = step (part_of bytes) _ specs is in
@@ -100,41 +113,51 @@ read_parts bytes specs is =
 pub read_is_valid : (bytes : List ℕ) (specs : Specs) → specs_of bytes ≡ Ok specs → are_specs specs ≡ true
 read_is_valid bytes specs is = (read_parts bytes specs is).0
 
-pub read_is_linked : (bytes : List ℕ) (specs : Specs) → specs_of bytes ≡ Ok specs → are_linked specs.journals specs.shards ≡ true
+pub read_is_linked : (bytes : List ℕ) (specs : Specs) → specs_of bytes ≡ Ok specs
+    → are_linked specs.journals specs.shards ≡ true
 read_is_linked bytes specs is = (read_parts bytes specs is).1.linked
 
 -- how many shards reach a shard is its number
-pub read_is_ranked : (bytes : List ℕ) (specs : Specs) → specs_of bytes ≡ Ok specs → (number : List ℕ → ℕ) × AreRanked number specs.shards
+pub read_is_ranked : (bytes : List ℕ) (specs : Specs) → specs_of bytes ≡ Ok specs
+    → (number : List ℕ → ℕ) × AreRanked number specs.shards
 read_is_ranked bytes specs is =
     let r = read_parts bytes specs is in
     whole_is_ranked specs r.0 r.1.acyclic
 
 -- ---- one shard, and what it names
 
-holds_at : {A : Type 0} (test : A → Bool) (xs : List A) (i : ℕ) (x : A) → list_all test xs ≡ true → i < length xs → x ≡ get_or xs i x → test x ≡ true
+holds_at : {A : Type 0} (test : A → Bool) (xs : List A) (i : ℕ) (x : A) → list_all test xs ≡ true → i < length xs
+    → x ≡ get_or xs i x → test x ≡ true
 holds_at test [] i x all below is = absurd (omega arith)
 holds_at test (y ∷ ys) zero x all below is = ap test is ∙ (and_parts (test y) (list_all test ys) all).0
-holds_at test (y ∷ ys) (suc i) x all below is = holds_at test ys i x (and_parts (test y) (list_all test ys) all).1 (omega arith) is
+holds_at test (y ∷ ys) (suc i) x all below is = holds_at test ys i x (and_parts (test y) (list_all test ys) all).1
+    (omega arith) is
 
 -- what holds of all holds of one among them
-pub all_among : {A : Type 0} (test : A → Bool) (xs : List A) (x : A) → list_all test xs ≡ true → IsAmong xs x → test x ≡ true
+pub all_among : {A : Type 0} (test : A → Bool) (xs : List A) (x : A) → list_all test xs ≡ true → IsAmong xs x
+    → test x ≡ true
 all_among test xs x all a = holds_at test xs a.0 x all a.1.0 a.1.1
 
-pub shard_is_linked : (journals : List JournalSpec) (shards : List ShardSpec) (s : ShardSpec) → are_linked journals shards ≡ true → IsAmong shards s → is_linked journals s ≡ true
+pub shard_is_linked : (journals : List JournalSpec) (shards : List ShardSpec) (s : ShardSpec)
+    → are_linked journals shards ≡ true → IsAmong shards s → is_linked journals s ≡ true
 shard_is_linked journals shards s linked a = all_among (is_linked journals) shards s linked a
 
-pub source_is_linked : (journals : List JournalSpec) (s : ShardSpec) (u : SourceSpec) → is_linked journals s ≡ true → IsAmong s.sources u → is_readable (held journals u.journal) ≡ true
+pub source_is_linked : (journals : List JournalSpec) (s : ShardSpec) (u : SourceSpec) → is_linked journals s ≡ true
+    → IsAmong s.sources u → is_readable (held journals u.journal) ≡ true
 source_is_linked journals s u linked a =
     let p = and_parts (list_all (λ t. is_readable (held journals t.journal)) s.sources) _ linked in
     all_among (λ t. is_readable (held journals t.journal)) s.sources u p.0 a
 
-pub log_is_linked : (journals : List JournalSpec) (s : ShardSpec) → is_linked journals s ≡ true → is_log (held journals (log_name s)) ≡ true
+pub log_is_linked : (journals : List JournalSpec) (s : ShardSpec) → is_linked journals s ≡ true
+    → is_log (held journals (log_name s)) ≡ true
 log_is_linked journals s linked =
     let p = and_parts (list_all (λ t. is_readable (held journals t.journal)) s.sources) _ linked in
     (and_parts (is_log (held journals (log_name s))) _ p.1).0
 
-pub output_is_linked : (journals : List JournalSpec) (s : ShardSpec) (o : List ℕ) → is_linked journals s ≡ true → IsAmong (outputs_of s) o → is_lines (held journals o) ≡ true
+pub output_is_linked : (journals : List JournalSpec) (s : ShardSpec) (o : List ℕ) → is_linked journals s ≡ true
+    → IsAmong (outputs_of s) o → is_lines (held journals o) ≡ true
 output_is_linked journals s o linked a =
     let p = and_parts (list_all (λ t. is_readable (held journals t.journal)) s.sources) _ linked in
-    let q = and_parts (is_log (held journals (log_name s))) (list_all (λ n. is_lines (held journals n)) (outputs_of s)) p.1 in
+    let q = and_parts (is_log (held journals (log_name s)))
+    (list_all (λ n. is_lines (held journals n)) (outputs_of s)) p.1 in
     all_among (λ n. is_lines (held journals n)) (outputs_of s) o q.1 a

@@ -11,6 +11,7 @@ pub mod Shards
 pub mod Members
 pub mod Links
 pub mod Cycles
+pub mod Levels
 pub mod Specs
 pub mod Joins
 pub mod Printed

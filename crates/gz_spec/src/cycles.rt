@@ -4,6 +4,7 @@ ghost use Rattle.std.specs.List.{list_any};
 ghost use Rattle.std.specs.Str.{bytes_eq};
 ghost use Rattle.gz_spec.specs.Cycles.{feeds, bit, row, either, widened, widened_all, closed, fed_rows, flag, first_cycle, IsToldFirst, IsToldCycle};
 
+use crate::levels::is_ordered;
 use crate::{ShardSpec, SourceSpec};
 use gz_label::{Name, NoMemory};
 use std::alloc::Global;
@@ -213,11 +214,16 @@ fn first_own(rows: &Rows, n: usize) -> Option<usize>
 }
 
 /// The place of the first shard whose outputs reach its own sources, if there is one: a path leads from
-/// it to itself, each shard of which writes to a journal that the next reads.
+/// it to itself, each shard of which writes to a journal that the next reads. Only where there is one are all
+/// paths followed, which takes time by the third power of the number of shards.
 pub fn first_cycle(alloc: Global, shards: &[ShardSpec]) -> Result<Option<usize>, NoMemory>
     ensures value { IfOk result (λ found. found ≡ first_cycle shards.now) }
     ensures told { IfOk result (λ found. IsToldCycle shards.now found) }
 {
+    let ordered = is_ordered(alloc, shards)?;
+    if ordered {
+        return Ok(None);
+    }
     let rows = reached(alloc, shards)?;
     let found = first_own(&rows, shards.len());
     Ok(found)

@@ -10,6 +10,7 @@ mod framing;
 mod joins;
 mod journal;
 mod labels;
+mod levels;
 mod links;
 mod lists;
 mod member;

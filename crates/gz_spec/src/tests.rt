@@ -1,4 +1,5 @@
 //! Specifications that are refused, each for one thing, the limits, and what is read where nothing is said.
+use crate::levels::is_ordered;
 use crate::{
     SpecError, print_journal, print_shard, print_specs, read_journal, read_member, read_part,
     read_shard, read_specs,
@@ -314,6 +315,29 @@ fn shards_stand_among_journals_and_feed_no_cycle(rt: HostRuntime) -> Result<(), 
         let refused = is_told(alloc, two.as_str(), row)?;
         assert!(rt; refused, "{row}");
     }
+    Ok(())
+}
+
+/// Shards in no order of their own: `d` has two writers, `s1` two sources that shards write to.
+const FEEDING: &str =
+    "{'shards':[{'id':'s1','sources':[{'journal':'b'},{'journal':'d'}],'recovery_log_prefix':'r','labels':{'app':['relay'],'output':['e']}},{'id':'s2','sources':[{'journal':'a'}],'recovery_log_prefix':'r','labels':{'app':['relay'],'output':['b']}},{'id':'s3','sources':[{'journal':'b'}],'recovery_log_prefix':'r','labels':{'app':['relay'],'output':['c','d']}},{'id':'s4','sources':[{'journal':'a'}],'recovery_log_prefix':'r','labels':{'app':['relay'],'output':['d']}}]}";
+
+/// Whether the shards of a text, with `'` for `"`, are ordered by levels of their journals.
+fn are_ordered(alloc: Global, text: &str) -> Result<bool, SpecError> {
+    let text = text.replace(alloc, "'", "\"")?;
+    let specs = read_part(alloc, text.as_bytes())?;
+    let ordered = is_ordered(alloc, specs.shards.as_slice())?;
+    Ok(ordered)
+}
+
+#[test]
+fn shards_that_feed_no_cycle_are_ordered_by_levels(rt: HostRuntime) -> Result<(), Fail> {
+    let alloc = rt.alloc();
+    let ordered = are_ordered(alloc, FEEDING)?;
+    assert!(rt; ordered);
+    let back = FEEDING.replace(alloc, "'a'", "'e'")?;
+    let ordered = are_ordered(alloc, back.as_str())?;
+    assert!(rt; !ordered);
     Ok(())
 }
 
