@@ -5,11 +5,12 @@ use Rattle.gz_model.specs.Faults.{HasRisen}
 use Rattle.gz_model.specs.Told.{AppendsFront}
 use Rattle.gz_base.specs.declared.exit.Exit.{Exit}
 use Rattle.gz_base.specs.declared.exit.Exit.TheVariants.{Done, Usage, BadInput, ReadFault, WriteFault, FileFault, PeerFault, Refused, Lost, NoMemory, Mismatch, HistoryFull, SpawnFault, BadPeer}
-use Rattle.gz_world.specs.declared.reply.Refusal.{Refusal}
+use Rattle.gz_scenario.specs.declared.error.ScenarioError.{ScenarioError}
 use Rattle.gz_world.specs.Worlds.{World, settled}
-use Rattle.gz_world.specs.Run.{outcome_from, refusal_text}
+use Rattle.gz_world.specs.Run.{outcome_from, refusal_line}
 use Rattle.gz_world.specs.Told.{HasOutcome}
-use Rattle.gz_plain.specs.ExactlyOnce.{ExactlyOnce, ReadsAll}
+use Rattle.gz_plain.specs.Promise.{AllExactlyOnce}
+use Rattle.gz_plain.specs.Order.{AllRest}
 use Rattle.gz_ctl.specs.Commands.{usage_text, read_fault_text}
 use Rattle.gz_ctl.specs.Answers.{IsVerdict, IsReport, IsRefusal, IsReplayText, WritesReport, WritesRefusal, WritesFront, IsAnswer, HasReport, KeepsPromise}
 
@@ -153,15 +154,15 @@ verdict_complete result exit text left rest faults risen wrote has v (inr is) fa
 
 -- ---- what a replay comes to
 
-pub refusal_is : (left : Option (List ℕ)) (refusal : Refusal) (text : List ℕ) → HasOutcome left (Err refusal) → text ≡ refusal_text refusal → IsRefusal left text
+pub refusal_is : (left : Option (List ℕ)) (refusal : ScenarioError) (text : List ℕ) → HasOutcome left (Err refusal) → text ≡ refusal_line refusal → IsRefusal left text
 refusal_is None refusal text outcome is = tt
 refusal_is (Some input) refusal text outcome is = (refusal, outcome, is)
 
 -- the promise of every run is that of this input's
-pub promise_kept : ((lines : List (List ℕ)) (w : World) → outcome_from lines ≡ Ok (Some w) → ExactlyOnce w.shard.producer w.shard.plain)
-    → ((lines : List (List ℕ)) (w : World) → outcome_from lines ≡ Ok (Some w) → ReadsAll (settled w).shard.plain) → (left : Option (List ℕ)) → KeepsPromise left
-promise_kept law reads None = tt
-promise_kept law reads (Some input) = λ front w begins gives. (law front w gives, reads front w gives)
+pub promise_kept : ((lines : List (List ℕ)) (w : World) → outcome_from lines ≡ Ok (Some w) → AllExactlyOnce w.cluster.journals w.cluster.shards)
+    → ((lines : List (List ℕ)) (w : World) → outcome_from lines ≡ Ok (Some w) → AllRest (settled w).cluster.journals (settled w).cluster.shards) → (left : Option (List ℕ)) → KeepsPromise left
+promise_kept law rests None = tt
+promise_kept law rests (Some input) = λ front w begins gives. (law front w gives, rests front w gives)
 
 -- a verdict is neither of these
 pub verdict_no_usage : (result exit : Exit) (text : List ℕ) (left rest : Option (List ℕ)) (faults risen : ℕ) → IsVerdict exit text left rest faults risen → (result ≡ exit) ⊎ (result ≡ WriteFault) → result ≡ Usage → ⊥

@@ -5,13 +5,14 @@ use Rattle.gz_model.specs.Faults.{HasRisen}
 use Rattle.gz_model.specs.Lines.{lines_of}
 use Rattle.gz_model.specs.Prefix.{IsPrefix}
 use Rattle.gz_model.specs.Told.{AppendsFront}
-use Rattle.gz_plain.specs.ExactlyOnce.{ExactlyOnce, ReadsAll}
+use Rattle.gz_scenario.specs.declared.error.ScenarioError.{ScenarioError}
+use Rattle.gz_plain.specs.Promise.{AllExactlyOnce}
+use Rattle.gz_plain.specs.Order.{AllRest}
 use Rattle.gz_base.specs.declared.exit.Exit.{Exit}
 use Rattle.gz_base.specs.declared.exit.Exit.TheVariants.{Done, Usage, BadInput, ReadFault, WriteFault, FileFault, PeerFault, Refused, Lost, NoMemory, Mismatch, HistoryFull, SpawnFault, BadPeer}
-use Rattle.gz_world.specs.declared.reply.Refusal.{Refusal}
 use Rattle.gz_world.specs.Worlds.{World, settled}
 use Rattle.gz_world.specs.Report.{report_if}
-use Rattle.gz_world.specs.Run.{outcome_of, outcome_from, refusal_text}
+use Rattle.gz_world.specs.Run.{outcome_of, outcome_from, refusal_line}
 use Rattle.gz_ctl.specs.Commands.{usage_text, read_fault_text}
 
 -- the lines of the bytes give a run, and its report was written
@@ -22,14 +23,14 @@ WritesReport (Some input) old new = (w : Option World) × (outcome_of input ≡ 
 -- a line of the bytes is refused, and that was written
 abbrev pub WritesRefusal : Option (List ℕ) → Option (List ℕ) → Option (List ℕ) → Type 0
 WritesRefusal None old new = ⊤
-WritesRefusal (Some input) old new = (refusal : Refusal) × (outcome_of input ≡ Err refusal) × Appends old new (refusal_text refusal)
+WritesRefusal (Some input) old new = (refusal : ScenarioError) × (outcome_of input ≡ Err refusal) × Appends old new (refusal_line refusal)
 
 -- the texts of which a front was written when the writing failed: the usage, where the words are no command; else a
 -- report, a refusal, or the read fault, where the source's count rose
 abbrev pub IsReplayText : Option (List ℕ) → Type 0 → List ℕ → Type 0
 IsReplayText None risen text = ⊤
 IsReplayText (Some input) risen text =
-    ((w : Option World) × (outcome_of input ≡ Ok w) × (text ≡ report_if w)) ⊎ (((refusal : Refusal) × (outcome_of input ≡ Err refusal) × (text ≡ refusal_text refusal)) ⊎ (risen × (text ≡ read_fault_text)))
+    ((w : Option World) × (outcome_of input ≡ Ok w) × (text ≡ report_if w)) ⊎ (((refusal : ScenarioError) × (outcome_of input ≡ Err refusal) × (text ≡ refusal_line refusal)) ⊎ (risen × (text ≡ read_fault_text)))
 
 abbrev pub IsText : Bool → Option (List ℕ) → Type 0 → List ℕ → Type 0
 IsText false input risen text = text ≡ usage_text
@@ -38,13 +39,14 @@ IsText true input risen text = IsReplayText input risen text
 abbrev pub WritesFront : Bool → Option (List ℕ) → Type 0 → Option (List ℕ) → Option (List ℕ) → Type 0
 WritesFront command input risen old new = (text : List ℕ) × IsText command input risen text × AppendsFront old new text
 
--- The promise: after each front of the lines, the run's shard has taken each committed message of its source once and
--- in order, and readers of its output accept what the application puts out for them; and a settle then leaves nothing
--- to read.
+-- The promise: after each front of the lines, each of the run's shards has taken each committed message of its sources
+-- once and in order, and readers of its outputs accept what its application puts out for them. And a settle then ends
+-- with each shard at rest: it is disabled, has no clocks left, or has read all that its sources have committed.
 abbrev pub KeepsPromise : Option (List ℕ) → Type 0
 KeepsPromise None = ⊤
 KeepsPromise (Some input) =
-    (front : List (List ℕ)) (w : World) → IsPrefix front (lines_of input) → outcome_from front ≡ Ok (Some w) → ExactlyOnce w.shard.producer w.shard.plain × ReadsAll (settled w).shard.plain
+    (front : List (List ℕ)) (w : World) → IsPrefix front (lines_of input) → outcome_from front ≡ Ok (Some w)
+    → AllExactlyOnce w.cluster.journals w.cluster.shards × AllRest (settled w).cluster.journals (settled w).cluster.shards
 
 -- the answers that a replay has
 abbrev pub IsAnswer : Exit → Type 0
@@ -76,7 +78,7 @@ IsReport (Some input) text = (w : Option World) × (outcome_of input ≡ Ok w) �
 
 abbrev pub IsRefusal : Option (List ℕ) → List ℕ → Type 0
 IsRefusal None text = ⊤
-IsRefusal (Some input) text = (refusal : Refusal) × (outcome_of input ≡ Err refusal) × (text ≡ refusal_text refusal)
+IsRefusal (Some input) text = (refusal : ScenarioError) × (outcome_of input ≡ Err refusal) × (text ≡ refusal_line refusal)
 
 -- how a replay of what is left ends, and with what text
 abbrev pub IsVerdict : Exit → List ℕ → Option (List ℕ) → Option (List ℕ) → ℕ → ℕ → Type 0

@@ -8,7 +8,9 @@ ghost use Rattle.gz_ctl.specs.Answers.{IsVerdict, WritesReport, WritesRefusal, W
 
 use gz_base::{Exit, Sink, Source, write_all};
 use gz_label::{Blob, NoMemory};
-use gz_world::{ReplayError, a_settle_reads_all, every_run_is_exactly_once, refusal_text, replay};
+use gz_world::{
+    ReplayError, a_settle_ends_every_run, every_run_is_exactly_once, refusal_line, replay,
+};
 use std::alloc::Global;
 
 const USAGE: &[u8] = b"usage: gazette replay|storm|attach-uuids|journals|shards|serve\n";
@@ -62,7 +64,7 @@ fn judge<S: Source>(alloc: Global, input: &mut S) -> Result<Verdict, NoMemory>
             })
         }
         Err(ReplayError::Refused(refusal)) => {
-            let text = refusal_text(alloc, refusal)?;
+            let text = refusal_line(alloc, &refusal)?;
             Ok(Verdict {
                 exit: Exit::BadInput,
                 text,
@@ -115,7 +117,7 @@ pub fn gazctl<S: Source, K: Sink>(
     ensures complete { is_command (map string_bytes words.now) ≡ true → HasReport (S.left input.old) → (result ≡ Exit.Done) ⊎ ((result ≡ Exit.NoMemory) ⊎ (HasRisen (S.faults input.old) (S.faults input.new) ⊎ HasRisen (K.faults output.old) (K.faults output.new))) }
 {
     every_run_is_exactly_once();
-    a_settle_reads_all();
+    a_settle_ends_every_run();
     if is_replay(words) {
         return match judge(alloc, input) {
             Ok(verdict) => {

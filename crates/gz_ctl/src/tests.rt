@@ -54,7 +54,7 @@ fn rows(rt: HostRuntime) -> Result<(), Fail> {
         (replays, SPECS, RUN, REPORT, Exit::Done),
         (replays, "", "", "", Exit::Done),
         (replays, SPECS, "", EMPTY_REPORT, Exit::Done),
-        (replays, "", "\n", "line 1: unknown event\n", Exit::BadInput),
+        (replays, "", "\n", "line 1: not JSON\n", Exit::BadInput),
         (replays, RUN, "", "line 1: unknown event\n", Exit::BadInput),
         (
             replays,
@@ -67,14 +67,14 @@ fn rows(rt: HostRuntime) -> Result<(), Fail> {
             replays,
             SPECS,
             "{\"do\":\"settle\"}\n\n",
-            "line 3: unknown event\n",
+            "line 3: not JSON\n",
             Exit::BadInput,
         ),
         (
             replays,
             SPECS,
             "{\"do\":\"settle\",\"a\":1}",
-            "line 2: unknown event\n",
+            "line 2: bad field a\n",
             Exit::BadInput,
         ),
         (

@@ -22,3 +22,5 @@ pub mod Settles
 pub mod Starts
 pub mod Promises
 pub mod Stepping
+pub mod Settling
+pub mod Beginning

@@ -7,6 +7,7 @@ use Rattle.gz_frame.specs.Release.{Release}
 use Rattle.gz_frame.specs.Text.{messages_of}
 use Rattle.gz_sequencer.specs.Committed.{released_in, committed}
 use Rattle.gz_sequencer.specs.Machine.{Point, at, started, fed, resumed, point_of}
+use Rattle.gz_sequencer.proofs.AnyCuts.{fed_is_committed}
 use Rattle.gz_sequencer.proofs.Resuming.{releases_the_rest, checkpoints_agree, wants_within}
 use Rattle.gz_plain.specs.Plain as plain
 use Rattle.gz_plain.specs.Plain.{part}
@@ -107,3 +108,7 @@ reading_more r text n p read len more point =
     let same : next ≡ whole r text =
     ap (λ (k : ℕ). record { read = k; point = p }) len2 ∙ ap (λ (q : Point). record { read = length (text_behind r text); point = q }) (point ∙ resumed_point r text read) in
     rw (is_more r.read (length (text_behind r text)) (omega (arith, len2, more))) (ap (λ (k : Next). record r { next = Some k }) same)
+
+-- a sequencer that was fed a text from its start has released what is committed
+pub fed_released : (text : List ℕ) → (fed (started 0) text).released ≡ released_in (committed 0 text)
+fed_released text = fed_is_committed 0 text

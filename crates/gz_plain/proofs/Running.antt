@@ -1,5 +1,5 @@
 -- What reading, commits and longer journals make of what a shard keeps.
-use Rattle.std.proofs.Common.{◌≡◌, ℕ, zero, suc, ◌+◌, ◌<◌, ◌≤◌, ◌^◌, List, [], ◌∷◌, ◌++◌, length, take, drop, map, refl, ap, sym, ◌∙◌, subst, Bool, true, false, append_assoc, cond, nat_lt, nat_le, ◌&&◌, Some, None, Option, arith}
+use Rattle.std.proofs.Common.{◌≡◌, ℕ, zero, suc, ◌+◌, ◌<◌, ◌≤◌, ◌^◌, List, [], ◌∷◌, ◌++◌, length, take, drop, map, refl, ap, sym, ◌∙◌, subst, Bool, true, false, append_assoc, get_or, cond, nat_lt, nat_le, ◌&&◌, Some, None, Option, arith}
 use Rattle.std.proofs.lemmas.Grind.{common_steps}
 use Rattle.std.proofs.lemmas.List.{append-nil, length-append, length-take-le, map-append}
 use Rattle.gz_model.specs.Prefix.{IsPrefix}
@@ -264,3 +264,22 @@ taken_longer js new (o ∷ os) (r ∷ rs) longer read taken = (
   },
   taken_longer js new os rs longer read.1 taken.1,
 )
+
+-- ---- what is new of all
+
+pub drop_here : (i : ℕ) (rs : List Reader) (r : Reader) → i < length rs → r ≡ get_or rs i r → drop i rs ≡ r ∷ drop (i + 1) rs
+drop_here i [] r less is = absurd (omega (arith, less))
+drop_here zero (s ∷ rs) r less is = ap (λ (x : Reader). x ∷ rs) (sym is)
+drop_here (suc i) (s ∷ rs) r less is =
+    let next : suc (i + 1) ≡ suc i + 1 = omega arith in
+    drop_here i rs r (omega (arith, less)) is ∙ ap (λ (n : ℕ). r ∷ drop n (s ∷ rs)) next
+
+pub news_turn : (js : List Journal) (all rest rest2 : List Reader) (messages messages2 : List Message) (r : Reader) (text : List ℕ) → rest ≡ r ∷ rest2 → text ≡ text_for js r → messages2 ≡ messages ++ news r text
+    → AreRead js rest × (messages ++ all_news js rest ≡ all_news js all) → AreRead js rest2 × (messages2 ++ all_news js rest2 ≡ all_news js all)
+news_turn js all rest rest2 messages messages2 r text next is released inv =
+    let read : AreRead js (r ∷ rest2) = subst (λ (rs : List Reader). AreRead js rs) next inv.0 in (
+      read.1,
+      ap (λ (ms : List Message). ms ++ all_news js rest2) (released ∙ ap (λ (t : List ℕ). messages ++ news r t) is)
+          ∙ append_assoc messages (news r (text_for js r)) (all_news js rest2)
+          ∙ ap (λ (rs : List Reader). messages ++ all_news js rs) (sym next) ∙ inv.1,
+    )

@@ -233,3 +233,6 @@ some_of ms b is held none =
   where
     clash : (b : Bool) → (length ms == 0) ≡ false → (length ms == 0) ≡ true → ⊥
     clash b a c = cc
+
+pub kept_appended : (name bytes : List ℕ) (js new : List Journal) (ss : List Shard) → new ≡ appended name bytes js → AllKept js ss → AllKept new ss
+kept_appended name bytes js new ss is k = subst (λ (x : List Journal). AllKept x ss) (sym is) (all_kept_grown js (appended name bytes js) ss (grows_appended name bytes js) k)

@@ -1,18 +1,21 @@
 //! Journals and the shards that read and write them.
 ghost use Rattle.std.specs.Prelude.{◌≡◌, ◌+◌, ◌<◌, ◌≤◌, ◌^◌, length, map, IfOk, OnOk, OnErr};
 ghost use Rattle.gz_plain.specs.Journals.{appended, place_of};
-ghost use Rattle.gz_plain.specs.Reports.{count_committed as committed_in, report_of};
+ghost use Rattle.gz_plain.specs.Reports.{report_of};
 ghost use Rattle.gz_plain.specs.Runs.{Distinct, begun};
 ghost use Rattle.gz_plain.specs.Shards.{settled};
 ghost use Rattle.gz_plain.specs.Cluster.{AreSmall, definitions_of};
 
+use crate::begin::{begin_journals, begin_shards};
 use crate::journals::{Journal, Journals};
-use crate::report::ShardReport;
+use crate::report::{ShardReport, report_all};
+use crate::settle::settle_all;
 use crate::shard::Shard;
 use gz_app::AppKind;
 use gz_label::{Name, NoMemory};
 use std::alloc::Global;
 use std::marker::Model;
+use std::mem;
 
 /// A source of a shard: a journal, and the offset from which it is read.
 #[derive(Debug, Drop)]
@@ -40,6 +43,7 @@ pub struct Cluster {
 impl Model for Cluster {
     ghost use Rattle.gz_plain.specs.Shards.{World};
     ghost use Rattle.gz_plain.specs.Places.{names_of};
+    ghost use Rattle.gz_plain.specs.Running.{AllKept};
     ghost use Rattle.gz_plain.specs.Runs.{Distinct};
     ghost use Rattle.gz_plain.specs.Seen.{shards_of};
 
@@ -47,12 +51,13 @@ impl Model for Cluster {
 
     ghost view = { λ a. record { journals = a.journals; shards = shards_of a.shards.items } };
 
-    ghost invariant = { λ a. Distinct (names_of a.journals) };
+    ghost invariant = { λ a. Distinct (names_of a.journals) × AllKept a.journals a.shards.items };
 }
 
 impl Cluster {
     /// Empty journals of these names, and shards of these definitions, which have read nothing. The producer of a
     /// shard's lines is 05 and its place in the list, from 1.
+    #[tactic(auto, using(crate::proofs::Places::names_empty))]
     pub fn begin(
         alloc: Global,
         names: Vec<Name>,
@@ -63,7 +68,9 @@ impl Cluster {
         requires offsets { AreSmall definitions.items }
         ensures { IfOk result (λ cluster. cluster ≡ begun names.items (definitions_of definitions.items)) }
     {
-        Err(NoMemory)
+        let journals = begin_journals(alloc, names)?;
+        let shards = begin_shards(alloc, definitions, &journals)?;
+        Ok(Cluster { journals, shards })
     }
 
     /// The journals, in the order in which they were named. It takes no memory.
@@ -96,21 +103,18 @@ impl Cluster {
     pub fn settle(&mut self, alloc: Global) -> Result<(), NoMemory>
         ensures { OnOk result (self.new ≡ settled self.old) }
     {
-        Err(NoMemory)
+        let mut journals = mem::replace(&mut self.journals, Journals::new(alloc));
+        let shards = mem::replace(&mut self.shards, Vec::new(alloc));
+        let shards = settle_all(alloc, shards, &mut journals)?;
+        self.journals = journals;
+        self.shards = shards;
+        Ok(())
     }
 
     /// What is told of each shard.
     pub fn reports(&self, alloc: Global) -> Result<Vec<ShardReport>, NoMemory>
         ensures { IfOk result (λ reports. reports.items ≡ map (report_of self.now.journals) self.now.shards) }
     {
-        Err(NoMemory)
+        report_all(alloc, self.shards.as_slice(), &self.journals)
     }
-}
-
-/// How many messages of a journal's text are committed.
-pub fn count_committed(alloc: Global, text: &[u8]) -> Result<usize, NoMemory>
-    requires { length text.now ≤ 2 ^ 62 }
-    ensures { IfOk result (λ count. count ≡ committed_in text.now) }
-{
-    Err(NoMemory)
 }

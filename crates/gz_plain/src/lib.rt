@@ -1,17 +1,19 @@
 //! Journals as texts, and shards that read and write them; and what shards promise.
 #![tactic(auto)]
 
+mod begin;
 mod cluster;
 mod journals;
 mod laws;
 mod reader;
 mod report;
+mod settle;
 mod shard;
 mod writer;
 #[cfg(test)]
 mod writer_tests;
 
-pub use cluster::{Cluster, Definition, Source, count_committed};
+pub use cluster::{Cluster, Definition, Source};
 pub use journals::{Journal, Journals};
 pub use laws::{a_settle_ends, every_shard_is_exactly_once};
-pub use report::ShardReport;
+pub use report::{ShardReport, count_committed};

@@ -44,7 +44,7 @@ fn len_behind(from: u64, text: &[u8]) -> u64
 }
 
 /// Takes all that the sequencer has released, and puts it behind the messages.
-fn drain(sequencer: &mut Sequencer, messages: &mut Messages) -> Result<(), NoMemory>
+pub fn drain(sequencer: &mut Sequencer, messages: &mut Messages) -> Result<(), NoMemory>
     ensures messages { OnOk result (messages.new ≡ messages.old ++ sequencer.old.released) }
     ensures rest { OnOk result (sequencer.new ≡ record sequencer.old { released = [] }) }
 {
@@ -89,9 +89,29 @@ impl Reader {
         }
     }
 
+    /// Reads what is new of the journal's text, and puts the messages that it releases behind the others. None where
+    /// nothing is new. Time goes with what is new, and with the lines from the first message on that waits.
+    fn peek(
+        &self,
+        alloc: Global,
+        text: &[u8],
+        messages: &mut Messages,
+    ) -> Result<Option<Next>, NoMemory>
+        requires read { IsRead self.now text.now }
+        requires short { length text.now ≤ 2 ^ 62 }
+        ensures next { IfOk result (λ next. next ≡ (reading text.now self.now).next) }
+        ensures messages { OnOk result (messages.new ≡ messages.old ++ news self.now text.now) }
+    {
+        let read = len_behind(self.from, text);
+        if read <= self.read {
+            return Ok(None);
+        }
+        let point = resume(alloc, &self.point, text, messages)?;
+        Ok(Some(Next { read, point }))
+    }
+
     /// Reads what is new of the journal's text, and puts the messages that it releases behind the others. What was read
-    /// counts when it is accepted, and else is read again. Time goes with what is new, and with the lines from the first
-    /// message on that waits.
+    /// counts when it is accepted, and else is read again.
     pub fn read_on(
         self,
         alloc: Global,
@@ -103,15 +123,8 @@ impl Reader {
         ensures reader { IfOk result (λ reader. reader ≡ reading text.now self) }
         ensures messages { OnOk result (messages.new ≡ messages.old ++ news self text.now) }
     {
-        let read = len_behind(self.from, text);
-        if read <= self.read {
-            return Ok(Reader { next: None, ..self });
-        }
-        let point = resume(alloc, &self.point, text, messages)?;
-        Ok(Reader {
-            next: Some(Next { read, point }),
-            ..self
-        })
+        let next = self.peek(alloc, text, messages)?;
+        Ok(Reader { next, ..self })
     }
 
     /// What was read counts from now on.
@@ -156,6 +169,23 @@ impl Model for Readers {
     ghost view = { λ a. a.readers.items };
 }
 
+/// The messages that each reader's journal has new, one reader after another.
+fn peek_all(
+    alloc: Global,
+    readers: &[Reader],
+    journals: &Journals,
+) -> Result<Messages, NoMemory>
+    requires { AreRead journals.now readers.now }
+    ensures { IfOk result (λ messages. messages ≡ all_news journals.now readers.now) }
+{
+    let mut messages = Messages::new(alloc);
+    for reader in readers {
+        let text = journals.text_at(reader.place);
+        let _next = reader.peek(alloc, text, &mut messages)?;
+    }
+    Ok(messages)
+}
+
 impl Readers {
     /// The same readers. It takes no memory.
     pub fn of(readers: Vec<Reader>) -> Readers
@@ -191,6 +221,14 @@ impl Readers {
             readers.push(reader)?;
         }
         Ok(Readers { readers })
+    }
+
+    /// The messages that each journal has new, source by source. Nothing counts as read.
+    pub fn news(&self, alloc: Global, journals: &Journals) -> Result<Messages, NoMemory>
+        requires { AreRead journals.now self.now }
+        ensures { IfOk result (λ messages. messages ≡ all_news journals.now self.now) }
+    {
+        peek_all(alloc, self.readers.as_slice(), journals)
     }
 
     /// What was read counts from now on.

@@ -11,8 +11,8 @@ use crate::{JournalSpec, ShardSpec, SourceSpec, SpecError};
 use gz_label::{Blob, Label, NoMemory};
 use std::alloc::Global;
 
-/// What the journal of this name holds, if there is one.
-fn held(journals: &[JournalSpec], name: &[u8]) -> Option<Framing>
+/// What the journal of this name holds, if there is one. Time goes with the number of journals.
+pub fn held(journals: &[JournalSpec], name: &[u8]) -> Option<Framing>
     ensures { result ≡ held journals.now name.now }
 {
     for journal in journals {

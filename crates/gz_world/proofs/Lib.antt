@@ -1,3 +1,11 @@
-pub mod Contents
+pub mod Order
+pub mod Used
+pub mod Wired
+pub mod Good
+pub mod Begun
+pub mod Outputs
+pub mod Texts
+pub mod Lines
+pub mod Events
 pub mod Runs
 pub mod Promises

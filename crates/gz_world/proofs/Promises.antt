@@ -1,97 +1,119 @@
--- What every run keeps of its shard.
-use Rattle.std.proofs.Common.{◌≡◌, ℕ, List, [], ◌∷◌, ◌+◌, length, refl, subst, Bool, true, false, cond, Option, Some, None, option_and_then, Result, Ok, Err}
+-- What every run keeps of its shards.
+use Rattle.std.proofs.Common.{◌≡◌, ◌&&◌, ℕ, ◌+◌, ◌<◌, ◌≤◌, ◌^◌, List, [], ◌∷◌, length, map, nat_le, refl, sym, ap, subst, Bool, true, false, Some, None, Result, Ok, Err, arith}
+use Rattle.std.specs.Prelude.{⊤}
+use Rattle.std.specs.List.{list_all}
+use Rattle.std.proofs.lemmas.Grind.{common_steps}
 use Rattle.gz_model.specs.Steps.{◌>>=◌}
-use Rattle.gz_frame.specs.Messages.{Message}
-use Rattle.gz_scenario.specs.Specifications.{specs_of}
+use Rattle.gz_spec.specs.Cycles.{AreRanked}
+use Rattle.gz_spec.specs.Links.{held, is_lines, is_log, is_readable, log_name, outputs_of, is_linked, are_linked}
+use Rattle.gz_spec.specs.Specs.{specs_of, name_of_journal, id_of_shard, id_of_member}
+use Rattle.gz_spec.specs.Valid.{are_fresh, is_shard, are_journals, are_shards, are_members, are_specs}
+use Rattle.gz_spec.specs.declared.cluster.Specs.{Specs}
+use Rattle.gz_spec.specs.declared.journal.JournalSpec.{JournalSpec}
+use Rattle.gz_spec.specs.declared.shard.ShardSpec.{ShardSpec}
+use Rattle.gz_spec.proofs.Whole.{read_is_valid, read_is_linked, read_is_ranked}
 use Rattle.gz_scenario.specs.Events.{event_of}
-use Rattle.gz_scenario.specs.declared.events.Draft.{Draft}
-use Rattle.gz_scenario.specs.declared.events.Event.{Event}
-use Rattle.gz_scenario.specs.declared.events.Event.TheVariants.{Publish, Settle}
-use Rattle.gz_scenario.specs.declared.specifications.Specs.{Specs}
-use Rattle.gz_plain.specs.Kept.{Kept}
-use Rattle.gz_plain.specs.Plain.{stepped}
-use Rattle.gz_plain.specs.ExactlyOnce.{ExactlyOnce, ReadsAll}
-use Rattle.gz_plain.proofs.Scanned.{step_reads_all}
-use Rattle.gz_plain.proofs.Kept.{kept_start, kept_landed, kept_stepped, exactly_once_of}
-use Rattle.gz_world.specs.declared.reply.Refusal.{Refusal}
-use Rattle.gz_world.specs.Worlds.{World, world_start, shard_producer, after, may_publish, publish_if, published, content_of, settled}
-use Rattle.gz_world.specs.Run.{is_past, known_or, judged, judged_first, run, outcome_from}
+use Rattle.gz_scenario.specs.declared.error.ScenarioError.{ScenarioError}
+use Rattle.gz_scenario.specs.declared.event.Event.{Event}
+use Rattle.gz_scenario.specs.declared.event.Event.TheVariants.{Specs as Begins, Publish, Settle}
+use Rattle.gz_plain.specs.Order.{AllRest, AreInOrder, wirings_of}
+use Rattle.gz_plain.specs.Promise.{AllExactlyOnce}
+use Rattle.gz_plain.specs.Runs as plain
+use Rattle.gz_plain.specs.Shards as shards
+use Rattle.gz_plain.proofs.Promises.{all_exactly_once_after, all_rest_after}
+use Rattle.gz_world.specs.Starts.{defined, in_id_order, definitions_of, cluster_start}
+use Rattle.gz_world.specs.Worlds.{World, world_start, settled}
+use Rattle.gz_world.specs.Run.{started, judged_first, run, outcome_from}
+use Rattle.gz_world.proofs.Good.{and_parts, AreGood, are_good, few_definitions}
+use Rattle.gz_world.proofs.Events.{Leads, step, same_ok, run_leads}
+use Rattle.gz_world.proofs.Lines.{specs_said}
+use Rattle.gz_world.proofs.Order.{Each, Shards, each_in_order}
+use Rattle.gz_world.proofs.Outputs.{distinct_outputs, are_present}
+use Rattle.gz_world.proofs.Wired.{rank_by, in_order, definitions_count}
 
--- the shard of a world is one that keeps its promise
-abbrev pub KeptIn : World → Type 0
-KeptIn w = Kept w.shard.producer w.shard.plain
+-- ---- specifications that were read
 
--- ---- one event
+-- a shard's outputs are journals, and it names none of them twice
+IsDefined : List JournalSpec → ShardSpec → Type 0
+IsDefined js s = plain.Distinct (outputs_of s) × plain.ArePresent (outputs_of s) (plain.all_empty (map name_of_journal js))
 
-content_kept : (content : Option (List Message)) (line : ℕ) (client : List ℕ) (w next : World) → KeptIn w → option_and_then (λ ms. Some (published line client ms w)) content ≡ Some next → KeptIn next
-content_kept None line client w next k is = cc
-content_kept (Some ms) line client w next k is =
-    let same : published line client ms w ≡ next = cc in
-    subst KeptIn same (kept_landed w.shard.producer ms w.shard.plain k)
+lines_of_linked : (js : List JournalSpec) (s : ShardSpec) → is_linked js s ≡ true → list_all (λ o. is_lines (held js o)) (outputs_of s) ≡ true
+lines_of_linked js s linked =
+    let a = and_parts (list_all (λ u. is_readable (held js u.journal)) s.sources) _ linked in
+    (and_parts (is_log (held js (log_name s))) (list_all (λ o. is_lines (held js o)) (outputs_of s)) a.1).1
 
-publish_kept : (may : Bool) (line : ℕ) (client : List ℕ) (drafts : List Draft) (w next : World) → KeptIn w → publish_if may line client drafts w ≡ Some next → KeptIn next
-publish_kept true line client drafts w next k is = content_kept (content_of drafts) line client w next k is
-publish_kept false line client drafts w next k is = cc
+each_defined : (js : List JournalSpec) (ss : List ShardSpec) → list_all is_shard ss ≡ true → are_linked js ss ≡ true → Each (IsDefined js) ss
+unfolding IsDefined
+each_defined js [] good linked = tt
+each_defined js (s ∷ ss) good linked =
+    let g = and_parts (is_shard s) (list_all is_shard ss) good in
+    let l = and_parts (is_linked js s) (are_linked js ss) linked in
+    ((distinct_outputs s g.0, are_present js (outputs_of s) (lines_of_linked js s l.0)), each_defined js ss g.1 l.1)
 
-event_kept : (line : ℕ) (e : Event) (w next : World) → KeptIn w → after line e w ≡ Some next → KeptIn next
-event_kept line (Publish p) w next k is = publish_kept (may_publish w.specs p.client p.journal) line p.client p.messages w next k is
-event_kept line Settle w next k is =
-    let same : record { specs = w.specs; replies = w.replies; shard = record w.shard { plain = stepped w.shard.producer w.shard.plain } } ≡ next = cc in
-    subst KeptIn same (kept_stepped w.shard.producer w.shard.plain k)
+all_defined : (js : List JournalSpec) (es : List (List ℕ × ShardSpec)) → Shards (IsDefined js) es → plain.AreDefined (plain.all_empty (map name_of_journal js)) (map defined es)
+unfolding IsDefined
+all_defined js [] each = tt
+all_defined js (e ∷ es) each = (each.0.0, each.0.1, all_defined js es each.1)
 
--- ---- one line
+are_defined : (specs : Specs) → list_all is_shard specs.shards ≡ true → are_linked specs.journals specs.shards ≡ true
+    → plain.AreDefined (plain.all_empty (map name_of_journal specs.journals)) (definitions_of specs.shards)
+are_defined specs good linked =
+    all_defined specs.journals (in_id_order specs.shards) (each_in_order (IsDefined specs.journals) specs.shards (each_defined specs.journals specs.shards good linked))
 
-known_kept : (number : ℕ) (next : Option World) (w : World) → ((v : World) → next ≡ Some v → KeptIn v) → known_or number next ≡ Ok w → KeptIn w
-known_kept number None w keeps is = cc
-known_kept number (Some v) w keeps is = let same : v ≡ w = cc in subst KeptIn same (keeps v refl)
+-- ---- a run
 
-said_kept : (number : ℕ) (e : Option Event) (w v : World) → KeptIn w → option_and_then (λ e. after number e w) e ≡ Some v → KeptIn v
-said_kept number None w v k is = cc
-said_kept number (Some e) w v k is = event_kept number e w v k is
+-- A run begins with specifications that were read, and what becomes of its journals and shards is what lawful
+-- happenings make of them.
+record IsRun (v : World) : Type 0 where
+  bytes : List ℕ
+  specs : Specs
+  read : specs_of bytes ≡ Ok specs
+  leads : Leads (world_start specs) v
 
-past_kept : (past : Bool) (refused : Result World Refusal) (next : Result World Refusal) (v : World) (refusal : Refusal) → refused ≡ Err refusal → cond past refused next ≡ Ok v → (next ≡ Ok v → KeptIn v) → KeptIn v
-past_kept true refused next v refusal is judged keeps = cc
-past_kept false refused next v refusal is judged keeps = keeps judged
+begun_by : (line : List ℕ) (e : Event) (w v : World) → event_of 1 line ≡ Ok e → started e ≡ Ok w → Leads w v → IsRun v
+begun_by line (Begins specs) w v said is leads = record {
+  bytes = line;
+  specs = specs;
+  read = specs_said line specs said;
+  leads = subst (λ (x : World). Leads x v) (sym (same_ok (world_start specs) w is)) leads;
+}
+begun_by line (Publish p) w v said is leads = absurd (cc)
+begun_by line Settle w v said is leads = absurd (cc)
 
-line_kept : (number before : ℕ) (line : List ℕ) (w v : World) → KeptIn w → judged number before line w ≡ Ok v → KeptIn v
-line_kept number before line w v k is =
-    past_kept (is_past number before (length line)) _ _ v _ refl is (λ known. known_kept number (option_and_then (λ e. after number e w) (event_of line)) v (λ u said. said_kept number (event_of line) w u k said) known)
+some_of : (r : Result World ScenarioError) (v : World) → (r >>= λ w. Ok (Some w)) ≡ Ok (Some v) → r ≡ Ok v
+some_of (Ok w) v is = cc
+some_of (Err e) v is = cc
 
--- ---- all lines
+is_run : (lines : List (List ℕ)) (v : World) → outcome_from lines ≡ Ok (Some v) → IsRun v
+is_run [] v is = absurd (cc)
+is_run (line ∷ lines) v is =
+    let first = step (judged_first line) (λ w. run lines 2 (length line) w >>= λ x. Ok (Some x)) (Some v) is in
+    let rest = some_of (run lines 2 (length line) first.0) v first.2 in
+    let said = step (event_of 1 line) (λ e. started e) first.0 first.1 in
+    begun_by line said.0 first.0 v said.1 said.2 (run_leads lines 2 (length line) first.0 v rest)
 
-bound_kept : (judged : Result World Refusal) (f : World → Result World Refusal) (v : World) → (judged >>= f) ≡ Ok v → ((w : World) → judged ≡ Ok w → f w ≡ Ok v → KeptIn v) → KeptIn v
-bound_kept (Ok w) f v is keeps = keeps w refl is
-bound_kept (Err e) f v is keeps = cc
+-- ---- the laws
 
-run_kept : (lines : List (List ℕ)) (number before : ℕ) (w v : World) → KeptIn w → run lines number before w ≡ Ok v → KeptIn v
-run_kept [] number before w v k is = let same : w ≡ v = cc in subst KeptIn same k
-run_kept (line ∷ lines) number before w v k is =
-    bound_kept (judged number before line w) (λ next. run lines (number + 1) (before + length line) next) v is
-    (λ next judges runs. run_kept lines (number + 1) (before + length line) next v (line_kept number before line w next k judges) runs)
+run_once : (v : World) → IsRun v → AllExactlyOnce v.cluster.journals v.cluster.shards
+run_once v r =
+    let good = are_good r.specs (read_is_valid r.bytes r.specs r.read) in
+    let defined = are_defined r.specs good.each (read_is_linked r.bytes r.specs r.read) in
+    subst (λ (c : shards.World). AllExactlyOnce c.journals c.shards) (sym r.leads.reached)
+    (all_exactly_once_after (map name_of_journal r.specs.journals) (definitions_of r.specs.shards) r.leads.happenings defined (few_definitions r.specs.shards good) r.leads.lawful)
 
-started_kept : (specs : Option Specs) (v : World) → (known_or 1 specs >>= λ specs. Ok (world_start specs)) ≡ Ok v → KeptIn v
-started_kept None v is = cc
-started_kept (Some specs) v is = let same : world_start specs ≡ v = cc in subst KeptIn same (kept_start shard_producer)
+run_rests : (v : World) → IsRun v → AllRest (settled v).cluster.journals (settled v).cluster.shards
+run_rests v r =
+    let good = are_good r.specs (read_is_valid r.bytes r.specs r.read) in
+    let defined = are_defined r.specs good.each (read_is_linked r.bytes r.specs r.read) in
+    let ranked = read_is_ranked r.bytes r.specs r.read in
+    subst (λ (c : shards.World). AllRest (shards.settled c).journals (shards.settled c).shards) (sym r.leads.reached)
+    (all_rest_after (map name_of_journal r.specs.journals) (definitions_of r.specs.shards) r.leads.happenings (rank_by ranked.0 (in_id_order r.specs.shards)) defined
+    (few_definitions r.specs.shards good) r.leads.lawful (in_order ranked.0 r.specs.shards good.fresh good.few ranked.1))
 
-first_kept : (line : List ℕ) (v : World) → judged_first line ≡ Ok v → KeptIn v
-first_kept line v is = past_kept (is_past 1 0 (length line)) _ _ v _ refl is (λ known. started_kept (specs_of line) v known)
+-- each committed message is taken once and in order
+pub exactly_once : (lines : List (List ℕ)) (v : World) → outcome_from lines ≡ Ok (Some v) → AllExactlyOnce v.cluster.journals v.cluster.shards
+exactly_once lines v is = run_once v (is_run lines v is)
 
-some_kept : (judged : Result World Refusal) (v : World) → (judged >>= λ w. Ok (Some w)) ≡ Ok (Some v) → judged ≡ Ok v
-some_kept (Ok w) v is = cc
-some_kept (Err e) v is = cc
-
-begun_kept : (line : List ℕ) (lines : List (List ℕ)) (judged : Result World Refusal) (v : World) → judged_first line ≡ judged → (judged >>= λ w. run lines 2 (length line) w >>= λ w. Ok (Some w)) ≡ Ok (Some v) → KeptIn v
-begun_kept line lines (Ok w) v is goes = run_kept lines 2 (length line) w v (first_kept line w is) (some_kept (run lines 2 (length line) w) v goes)
-begun_kept line lines (Err e) v is goes = cc
-
-pub outcome_kept : (lines : List (List ℕ)) (v : World) → outcome_from lines ≡ Ok (Some v) → KeptIn v
-outcome_kept [] v is = cc
-outcome_kept (line ∷ lines) v is = begun_kept line lines (judged_first line) v refl is
-
--- each message is taken exactly once
-pub exactly_once : (lines : List (List ℕ)) (v : World) → outcome_from lines ≡ Ok (Some v) → ExactlyOnce v.shard.producer v.shard.plain
-exactly_once lines v is = exactly_once_of v.shard.producer v.shard.plain (outcome_kept lines v is)
-
--- a settle reads all that is committed
-pub settle_reads_all : (lines : List (List ℕ)) (v : World) → outcome_from lines ≡ Ok (Some v) → ReadsAll (settled v).shard.plain
-settle_reads_all lines v is = step_reads_all v.shard.producer v.shard.plain (outcome_kept lines v is)
+-- a settle leaves each shard at rest
+pub settle_rests : (lines : List (List ℕ)) (v : World) → outcome_from lines ≡ Ok (Some v) → AllRest (settled v).cluster.journals (settled v).cluster.shards
+settle_rests lines v is = run_rests v (is_run lines v is)

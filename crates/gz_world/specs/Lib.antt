@@ -1,5 +1,5 @@
+pub mod Starts
 pub mod Worlds
-pub mod Views
 pub mod Report
 pub mod Run
 pub mod Told

@@ -3,20 +3,21 @@ use Rattle.std.specs.Prelude.{◌≡◌, ℕ, List, Option, Some, None, Result, 
 use Rattle.std.specs.Io.KnownBytes.{IsAtEnd}
 use Rattle.gz_model.specs.Lines.{lines_of}
 use Rattle.gz_model.specs.Told.{TakesLine, HasLongLine}
-use Rattle.gz_world.specs.declared.reply.Refusal.{Refusal}
-use Rattle.gz_world.specs.declared.reply.Refusal.TheVariants.{Limit}
+use Rattle.gz_scenario.specs.Events.{max_line}
+use Rattle.gz_scenario.specs.declared.error.ScenarioError.{ScenarioError}
+use Rattle.gz_scenario.specs.declared.error.ScenarioError.TheVariants.{Limit}
 use Rattle.gz_world.specs.declared.replays.ReplayError.{ReplayError}
 use Rattle.gz_world.specs.declared.replays.ReplayError.TheVariants.{Refused, Fault, NoMemory}
 use Rattle.gz_world.specs.Worlds.{World}
-use Rattle.gz_world.specs.Run.{run, outcome_of, max_line}
+use Rattle.gz_world.specs.Run.{run, outcome_of}
 
 -- the outcome of the bytes, where they are told
-abbrev pub HasOutcome : Option (List ℕ) → Result (Option World) Refusal → Type 0
+abbrev pub HasOutcome : Option (List ℕ) → Result (Option World) ScenarioError → Type 0
 HasOutcome None outcome = ⊤
 HasOutcome (Some bytes) outcome = outcome_of bytes ≡ outcome
 
 -- the lines ahead, from the second one on, make this of a world, where they are told
-abbrev pub RunsTo : Option (List ℕ) → ℕ → World → Result World Refusal → Type 0
+abbrev pub RunsTo : Option (List ℕ) → ℕ → World → Result World ScenarioError → Type 0
 RunsTo None before w outcome = ⊤
 RunsTo (Some ahead) before w outcome = run (lines_of ahead) 2 before w ≡ outcome
 
@@ -27,7 +28,7 @@ GoesOn (Some all) None before start number bytes w = ⊥
 GoesOn (Some all) (Some now) before start number bytes w = run (lines_of all) 2 before start ≡ run (lines_of now) number bytes w
 
 -- what taking a line may refuse: one that is longer than a line may be
-abbrev pub IsLong : Refusal → ℕ → Option (List ℕ) → Type 0
+abbrev pub IsLong : ScenarioError → ℕ → Option (List ℕ) → Type 0
 IsLong refusal number old = (refusal ≡ Limit number) × HasLongLine max_line old
 
 -- the next line is taken from what is ahead, or there is none

@@ -1,57 +1,56 @@
-//! The messages of a publish.
-ghost use Rattle.std.specs.Prelude.{◌≡◌, ◌≤◌, IfOk, IfSome, Some, None, option_map, if◌then◌else◌};
+//! The text that a publish appends.
+ghost use Rattle.std.specs.Prelude.{◌≡◌, IfOk, IsTrue};
 ghost use Rattle.std.specs.List.{list_all};
-ghost use Rattle.gz_frame.specs.Messages.{is_message};
-ghost use Rattle.gz_plain.specs.Outside.{AllOutside};
-ghost use Rattle.gz_world.specs.Worlds.{client_producer, message_at, messages_at, content_of, IsMessageIf};
+ghost use Rattle.gz_scenario.specs.Lawful.{is_draft};
+ghost use Rattle.gz_world.specs.Worlds.{flags_of, message_at, is_sound, text_at};
 
-use gz_frame::Message;
-use gz_label::NoMemory;
-use gz_plain::MessageText;
-use gz_scenario::Draft;
+use gz_frame::{Message, print_line};
+use gz_label::{Blob, NoMemory};
+use gz_scenario::{Draft, Flag};
 use gz_uuid::{Flags, MsgClock, Parts, ProducerId};
 use std::alloc::Global;
 
-/// The most bytes of an append.
-const MAX_CONTENT: usize = 1_048_576;
-
-/// The draft as an OUTSIDE message of the first client, where its key and value are texts.
-#[tactic(auto, using(crate::proofs::Contents::is_message_if))]
-fn message_of(draft: &Draft) -> Result<Option<Message>, NoMemory>
-    ensures { IfOk result (IsMessageIf (message_at draft.now)) }
+fn flags_of(flag: Flag) -> Flags
+    ensures { result ≡ flags_of flag }
 {
+    match flag {
+        Flag::Outside => Flags::OUTSIDE_TXN,
+        Flag::Continue => Flags::CONTINUE_TXN,
+        Flag::Ack => Flags::ACK_TXN,
+    }
+}
+
+/// The draft as a message of this producer.
+#[tactic(auto, unfolding(crate::specs::Worlds::is_sound))]
+fn message_of(alloc: Global, producer: ProducerId, draft: &Draft) -> Result<Message, NoMemory>
+    requires { IsTrue (is_draft draft.now) }
+    ensures value { IfOk result (λ message. message ≡ message_at producer draft.now) }
+    ensures sound { IfOk result (λ message. IsTrue (is_sound message)) }
+{
+    let flags = flags_of(draft.flag);
+    let clock = MsgClock::new(draft.clock);
     let parts = Parts {
-        producer: ProducerId::client(1).unwrap(),
-        clock: MsgClock::new(draft.clock),
-        flags: Flags::OUTSIDE_TXN,
+        producer,
+        clock,
+        flags,
     };
-    let key = draft.key.copy()?;
-    let value = draft.value.copy()?;
-    Ok(Message::new(parts, key, value))
+    let key = String::from_str(alloc, draft.key.as_str())?;
+    let value = String::from_str(alloc, draft.value.as_str())?;
+    let message = Message::of(parts, key, value);
+    let _parts = message.parts();
+    Ok(message)
 }
 
-/// The drafts as messages, where each of them is one.
-fn messages_of(alloc: Global, drafts: &[Draft]) -> Result<Option<MessageText>, NoMemory>
-    ensures { IfOk result (λ messages. messages ≡ (if list_all is_message (messages_at drafts.now) then Some (messages_at drafts.now) else None)) }
+/// The lines of the drafts as messages of this producer.
+pub fn print_drafts(alloc: Global, producer: ProducerId, drafts: &[Draft]) -> Result<Blob, NoMemory>
+    requires { IsTrue (list_all is_draft drafts.now) }
+    ensures { IfOk result (λ text. text ≡ text_at producer drafts.now) }
 {
-    let mut messages = MessageText::new(alloc);
+    let mut text = Blob::new(alloc);
     for draft in drafts {
-        match message_of(draft)? {
-            Some(message) => messages.push(alloc, message)?,
-            None => return Ok(None),
-        }
+        let message = message_of(alloc, producer, draft)?;
+        let line = print_line(alloc, &message)?;
+        text.append(line.as_slice())?;
     }
-    Ok(Some(messages))
-}
-
-/// The messages of a publish with their text, where each is one and the text has at most 1,048,576 bytes.
-#[tactic(auto, using(crate::proofs::Contents::outside_drafts), unfolding(crate::specs::Worlds::content_of))]
-pub fn read_content(alloc: Global, drafts: &[Draft]) -> Result<Option<MessageText>, NoMemory>
-    ensures content { IfOk result (λ messages. messages ≡ content_of drafts.now) }
-    ensures outside { IfOk result (λ messages. IfSome messages (AllOutside client_producer)) }
-{
-    match messages_of(alloc, drafts)? {
-        Some(messages) if messages.end() <= MAX_CONTENT => Ok(Some(messages)),
-        _ => Ok(None),
-    }
+    Ok(text)
 }

@@ -2,16 +2,17 @@
 #![tactic(auto)]
 
 mod content;
+mod judge;
 mod laws;
 mod replays;
 mod reply;
 mod report;
-mod roles;
+mod start;
 #[cfg(test)]
 mod tests;
 mod world;
 
-pub use laws::{a_settle_reads_all, every_run_is_exactly_once};
-pub use replays::{ReplayError, refusal_text, replay};
-pub use reply::{Applied, Refusal, Reply};
+pub use laws::{a_settle_ends_every_run, every_run_is_exactly_once};
+pub use replays::{ReplayError, refusal_line, replay};
+pub use reply::{Answer, Applied, Reason, Told};
 pub use world::World;

@@ -1,21 +1,19 @@
 //! Replays of the lines of a source.
-ghost use Rattle.std.specs.Prelude.{◌≡◌, ◌≢◌, ◌≤◌, ◌+◌, ◌<◌, length, Ok, Err, Some, IfOk, OnOk, IsErr, ◌||◌};
+ghost use Rattle.std.specs.Prelude.{◌≡◌, ◌≢◌, ◌≤◌, ◌+◌, ◌<◌, length, Ok, Err, Some, IfOk, OnOk, IsErr, IsTrue};
 ghost use Rattle.std.specs.Io.KnownBytes.{IsAtEnd};
 ghost use Rattle.gz_model.specs.Faults.{HasRisen};
 ghost use Rattle.gz_model.specs.Told.{ahead};
-ghost use Rattle.gz_world.specs.Run.{is_past, judged, judged_first, refusal_text as text_of};
-ghost use Rattle.gz_world.specs.Replays.{Gives, GivesValue};
+ghost use Rattle.gz_scenario.specs.Events.{event_of};
+ghost use Rattle.gz_scenario.specs.Lawful.{is_event};
+ghost use Rattle.gz_world.specs.Run.{judged, judged_first, started, refusal_line as line_of};
+ghost use Rattle.gz_world.specs.Replays.{refused_or, Gives, GivesValue};
 ghost use Rattle.gz_world.specs.Told.{HasOutcome, RunsTo, TakesNext};
 
-use crate::reply::{Applied, Refusal};
 use crate::world::World;
 use gz_base::{LineError, LineReader, Source};
 use gz_label::{Blob, NoMemory};
-use gz_scenario::{FormError, read_event, read_specs};
+use gz_scenario::{Event, ScenarioError, read_event};
 use std::alloc::Global;
-
-/// The most events of a scenario.
-const MAX_EVENTS: u64 = 65_536;
 
 /// The most bytes of a line, with its newline.
 const MAX_LINE: usize = 4_194_304;
@@ -24,10 +22,10 @@ const MAX_LINE: usize = 4_194_304;
 const MAX_INPUT: u64 = 134_217_728;
 
 /// Why a replay has no world.
-#[derive(Clone, Copy, Debug, PartialEq, Eq)]
+#[derive(Debug, Drop)]
 pub enum ReplayError {
     /// A line is refused.
-    Refused(Refusal),
+    Refused(ScenarioError),
     /// The source failed.
     Fault,
     NoMemory,
@@ -44,32 +42,51 @@ impl From<NoMemory> for ReplayError {
     }
 }
 
-/// Whether a line passes a limit, by its number, by its length, or with the bytes before it.
-fn passes_limit(number: u64, before: u64, len: usize) -> bool
-    requires { before ≤ 134217728 }
-    ensures { result ≡ is_past number before len }
+/// The refusal of a line, or the want of memory.
+fn refused_or(error: ScenarioError) -> ReplayError
+    ensures { result ≡ refused_or error }
 {
-    number > MAX_EVENTS || len > MAX_LINE || before + len as u64 > MAX_INPUT
+    match error {
+        ScenarioError::NoMemory => ReplayError::NoMemory,
+        ScenarioError::Limit { line } => ReplayError::Refused(ScenarioError::Limit { line }),
+        ScenarioError::NotJson { line } => ReplayError::Refused(ScenarioError::NotJson { line }),
+        ScenarioError::Unknown { line } => ReplayError::Refused(ScenarioError::Unknown { line }),
+        ScenarioError::BadField { line, path } => {
+            ReplayError::Refused(ScenarioError::BadField { line, path })
+        }
+    }
+}
+
+/// The event that a line says.
+#[tactic(auto, using(crate::proofs::Lines::read_gives))]
+fn read_line(alloc: Global, number: u64, line: &[u8]) -> Result<Event, ReplayError>
+    ensures gives { GivesValue result (event_of number line.now) }
+    ensures lawful { IfOk result (λ event. IsTrue (is_event event)) }
+{
+    match read_event(alloc, number, line) {
+        Ok(event) => Ok(event),
+        Err(error) => Err(refused_or(error)),
+    }
 }
 
 /// The world that the first line starts.
+#[tactic(auto, using(crate::proofs::Lines::begun_valid))]
 fn begin(alloc: Global, line: &[u8]) -> Result<World, ReplayError>
     ensures { GivesValue result (judged_first line.now) }
 {
-    if passes_limit(1, 0, line.len()) {
-        return Err(ReplayError::Refused(Refusal::Limit { line: 1 }));
-    }
-    match read_specs(alloc, line) {
-        Ok(specs) => {
+    match read_line(alloc, 1, line)? {
+        Event::Specs(specs) => {
             let world = World::start(alloc, specs)?;
             Ok(world)
         }
-        Err(FormError::Unknown) => Err(ReplayError::Refused(Refusal::Unknown { line: 1 })),
-        Err(FormError::NoMemory) => Err(ReplayError::NoMemory),
+        Event::Publish(_) | Event::Settle => {
+            Err(ReplayError::Refused(ScenarioError::Unknown { line: 1 }))
+        }
     }
 }
 
 /// Judges a further line and applies its event.
+#[tactic(auto, using(crate::proofs::Lines::within_lines))]
 fn advance(
     alloc: Global,
     number: u64,
@@ -81,17 +98,12 @@ fn advance(
     ensures gives { Gives world.new result (judged number before line.now world.old) }
     ensures within { OnOk result ((number ≤ 65536) × (before + length line.now ≤ 134217728)) }
 {
-    if passes_limit(number, before, line.len()) {
-        return Err(ReplayError::Refused(Refusal::Limit { line: number }));
+    if line.len() as u64 > MAX_INPUT - before {
+        return Err(ReplayError::Refused(ScenarioError::Limit { line: number }));
     }
-    match read_event(alloc, line) {
-        Ok(event) => match world.apply(alloc, number, &event)? {
-            Applied::Done => Ok(()),
-            Applied::Unfit => Err(ReplayError::Refused(Refusal::Unknown { line: number })),
-        },
-        Err(FormError::Unknown) => { Err(ReplayError::Refused(Refusal::Unknown { line: number })) }
-        Err(FormError::NoMemory) => Err(ReplayError::NoMemory),
-    }
+    let event = read_line(alloc, number, line)?;
+    world.apply(alloc, number, &event)?;
+    Ok(())
 }
 
 /// The next line, whose number it is given.
@@ -107,7 +119,7 @@ fn take_line<S: Source>(
 {
     match reader.next_line(alloc, input, MAX_LINE) {
         Ok(line) => Ok(line),
-        Err(LineError::TooLong) => Err(ReplayError::Refused(Refusal::Limit { line: number })),
+        Err(LineError::TooLong) => Err(ReplayError::Refused(ScenarioError::Limit { line: number })),
         Err(LineError::Fault) => Err(ReplayError::Fault),
         Err(LineError::NoMemory) => Err(ReplayError::NoMemory),
     }
@@ -124,7 +136,7 @@ fn go_on<S: Source>(
     requires { first ≤ 134217728 }
     ensures done { OnOk result (RunsTo (ahead reader.old (S.left input.old)) first world.old (Ok world.new)) }
     ensures end { OnOk result (IsAtEnd (S.left input.new)) }
-    ensures refused { (refusal : Refusal) → result ≡ Err (ReplayError.Refused refusal) → RunsTo (ahead reader.old (S.left input.old)) first world.old (Err refusal) }
+    ensures refused { (refusal : ScenarioError) → result ≡ Err (ReplayError.Refused refusal) → RunsTo (ahead reader.old (S.left input.old)) first world.old (Err refusal) }
     ensures faults_stay { S.faults input.old ≤ S.faults input.new }
     ensures fault { result ≡ Err ReplayError.Fault → HasRisen (S.faults input.old) (S.faults input.new) }
 {
@@ -146,7 +158,7 @@ fn go_on<S: Source>(
 pub fn replay<S: Source>(alloc: Global, input: &mut S) -> Result<Option<World>, ReplayError>
     ensures done { IfOk result (λ world. HasOutcome (S.left input.old) (Ok world)) }
     ensures end { OnOk result (IsAtEnd (S.left input.new)) }
-    ensures refused { (refusal : Refusal) → result ≡ Err (ReplayError.Refused refusal) → HasOutcome (S.left input.old) (Err refusal) }
+    ensures refused { (refusal : ScenarioError) → result ≡ Err (ReplayError.Refused refusal) → HasOutcome (S.left input.old) (Err refusal) }
     ensures faults_stay { S.faults input.old ≤ S.faults input.new }
     ensures fault { result ≡ Err ReplayError.Fault → HasRisen (S.faults input.old) (S.faults input.new) }
 {
@@ -161,13 +173,11 @@ pub fn replay<S: Source>(alloc: Global, input: &mut S) -> Result<Option<World>, 
     Ok(Some(world))
 }
 
-/// What is said of a refused line.
-pub fn refusal_text(alloc: Global, refusal: Refusal) -> Result<Blob, NoMemory>
-    ensures { IfOk result (λ text. text ≡ text_of refusal) }
+/// What is said of a refused line: its number and the reason, and a newline.
+pub fn refusal_line(alloc: Global, refusal: &ScenarioError) -> Result<Blob, NoMemory>
+    ensures { IfOk result (λ text. text ≡ line_of refusal.now) }
 {
-    let text = match refusal {
-        Refusal::Limit { line } => format!(in alloc; "line {line}: limit\n")?,
-        Refusal::Unknown { line } => format!(in alloc; "line {line}: unknown event\n")?,
-    };
-    Blob::of(alloc, text.as_bytes())
+    let mut text = refusal.print(alloc)?;
+    text.append(b"\n")?;
+    Ok(text)
 }

@@ -1,18 +1,41 @@
-//! What is answered to an event or a line.
+//! What is told of events.
 
 use gz_label::Name;
 
-/// The answer to a publish that landed.
+/// What a journal answers to an append.
+#[derive(Clone, Copy, Debug, PartialEq, Eq)]
+pub enum Answer {
+    /// It landed, from the offset of its first byte to the one behind its last.
+    Landed { begin: usize, end: usize },
+    /// It has more than 1,048,576 bytes.
+    TooLarge,
+    /// The journal is one of fixed frames, and it isn't.
+    NotFramed,
+}
+
+/// Why an event is refused.
+#[derive(Clone, Copy, Debug, PartialEq, Eq)]
+pub enum Reason {
+    /// The client's name is a broker's or a consumer's, or kept for the program's own.
+    NameUsed,
+    /// There is no such journal.
+    NoRoute,
+}
+
+/// What was told of an event. Lines are those of the scenario, from 1.
 #[derive(Debug, Drop)]
-pub struct Reply {
-    /// The line of the scenario that asked, from 1.
-    pub line: u64,
-    /// Who asked.
-    pub client: Name,
-    /// The offset of the first byte that landed.
-    pub begin: usize,
-    /// The offset behind the last byte that landed.
-    pub end: usize,
+pub enum Told {
+    /// A client got an answer.
+    Replied {
+        line: u64,
+        client: Name,
+        answer: Answer,
+    },
+    /// The event was refused, and nothing else happened.
+    Refused {
+        line: u64,
+        reason: Reason,
+    },
 }
 
 /// What became of an event.
@@ -20,17 +43,6 @@ pub struct Reply {
 pub enum Applied {
     /// It was done.
     Done,
-    /// It doesn't fit the world: the client is a member's name, the journal isn't the shard's source, the
-    /// messages have more bytes than an append may have, or a key or a value isn't a message's. Nothing has
-    /// changed.
-    Unfit,
-}
-
-/// Why a line is refused, with its number.
-#[derive(Clone, Copy, Debug, PartialEq, Eq)]
-pub enum Refusal {
-    /// There are more lines, or more bytes of the line or of the input, than there may be.
-    Limit { line: u64 },
-    /// The line says no event that is known and fits.
-    Unknown { line: u64 },
+    /// It was refused, which is told and changes nothing else.
+    Refused(Reason),
 }

@@ -1,13 +1,16 @@
 //! The report of a world.
-ghost use Rattle.std.specs.Prelude.{◌≡◌, ◌++◌, flat_map, Some, IfOk, OnOk};
-ghost use Rattle.gz_plain.specs.Plain.{end_of, count_committed};
-ghost use Rattle.gz_world.specs.Report.{reply_line, in_name_order, messages_in, journal_line, status_of, shard_line, report_of};
+ghost use Rattle.std.specs.Prelude.{◌≡◌, ◌++◌, ◌≤◌, ◌^◌, length, map, flat_map, IfOk, OnOk};
+ghost use Rattle.gz_plain.specs.Reports.{report_of as report_of_shard};
+ghost use Rattle.gz_world.specs.declared.reply.Answer.TheVariants.{Landed};
+ghost use Rattle.gz_world.specs.declared.reply.Told.TheVariants.{Replied, Refused};
+ghost use Rattle.gz_world.specs.Report.{answer_text, reason_text, told_line, in_name_order, journal_text, journal_line, status_of, shard_line, shard_lines, report_of};
 
-use crate::reply::Reply;
-use crate::roles::{is_output_of, is_source_of};
+use crate::judge::text_in;
+use crate::reply::{Answer, Reason, Told};
+use crate::start::{ShardTable, in_id_order};
 use gz_label::{Blob, Name, NoMemory};
-use gz_plain::PlainShard;
-use gz_scenario::{Content, JournalSpec, ShardSpec, Specs};
+use gz_plain::{Cluster, ShardReport, count_committed};
+use gz_spec::{Framing, JournalSpec, Specs};
 use std::alloc::Global;
 use std::collections::BTreeMap;
 use std::marker::Model;
@@ -15,79 +18,126 @@ use std::marker::Model;
 /// The journals in name order. Contracts see pairs of a name and what it holds.
 #[derive(Drop)]
 struct JournalTable {
-    entries: BTreeMap<Name, Content>,
+    entries: BTreeMap<Name, Framing>,
 }
 
 impl Model for JournalTable {
     ghost use Rattle.std.specs.Prelude.{List, ℕ};
-    ghost use Rattle.gz_scenario.specs.declared.specifications.Content.{Content};
+    ghost use Rattle.gz_spec.specs.declared.framing.Framing.{Framing};
 
-    ghost Value = { List (List ℕ × Content) };
+    ghost Value = { List (List ℕ × Framing) };
 
     ghost view = { λ a. a.entries.entries };
 }
 
-fn in_order(alloc: Global, journals: &[JournalSpec]) -> Result<JournalTable, NoMemory>
+fn in_name_order(alloc: Global, journals: &[JournalSpec]) -> Result<JournalTable, NoMemory>
     ensures { IfOk result (λ table. table ≡ in_name_order journals.now) }
 {
     let mut entries = BTreeMap::new(alloc);
     for journal in journals {
-        entries.insert(journal.name.copy()?, journal.content)?;
+        entries.insert(journal.name.copy()?, journal.framing())?;
     }
     Ok(JournalTable { entries })
 }
 
-fn print_reply(alloc: Global, out: &mut Blob, reply: &Reply) -> Result<(), NoMemory>
-    ensures { OnOk result (out.new ≡ out.old ++ reply_line reply.now) }
+fn print_landed(alloc: Global, begin: usize, end: usize) -> Result<Blob, NoMemory>
+    ensures { IfOk result (λ text. text ≡ answer_text (Landed begin end)) }
 {
-    let line = reply.line;
-    let client = reply.client.as_str();
-    let begin = reply.begin;
-    let end = reply.end;
-    let text = format!(in alloc; "reply {line} {client} ok {begin} {end}\n")?;
-    out.append(text.as_bytes())
+    let text = format!(in alloc; "ok {begin} {end}")?;
+    Blob::of(alloc, text.as_bytes())
 }
 
-fn print_replies(alloc: Global, out: &mut Blob, replies: &[Reply]) -> Result<(), NoMemory>
-    ensures { OnOk result (out.new ≡ out.old ++ flat_map reply_line replies.now) }
+fn print_answer(alloc: Global, answer: Answer) -> Result<Blob, NoMemory>
+    ensures { IfOk result (λ text. text ≡ answer_text answer) }
 {
-    for reply in replies {
-        print_reply(alloc, out, reply)?;
+    match answer {
+        Answer::Landed { begin, end } => print_landed(alloc, begin, end),
+        Answer::TooLarge => Blob::of(alloc, b"too large 1048576"),
+        Answer::NotFramed => Blob::of(alloc, b"not framed"),
+    }
+}
+
+fn reason_text(reason: Reason) -> &'static [u8]
+    ensures { result.now ≡ reason_text reason }
+{
+    match reason {
+        Reason::NameUsed => b"name used",
+        Reason::NoRoute => b"no route",
+    }
+}
+
+fn print_reply(
+    alloc: Global,
+    out: &mut Blob,
+    line: u64,
+    client: &Name,
+    answer: Answer,
+) -> Result<(), NoMemory>
+    ensures { OnOk result (out.new ≡ out.old ++ told_line (Replied line client.now answer)) }
+{
+    let client = client.as_str();
+    let head = format!(in alloc; "reply {line} {client} ")?;
+    let answer = print_answer(alloc, answer)?;
+    out.append(head.as_bytes())?;
+    out.append(answer.as_slice())?;
+    out.append(b"\n")
+}
+
+fn print_refusal(alloc: Global, out: &mut Blob, line: u64, reason: Reason) -> Result<(), NoMemory>
+    ensures { OnOk result (out.new ≡ out.old ++ told_line (Refused line reason)) }
+{
+    let head = format!(in alloc; "refused {line} ")?;
+    out.append(head.as_bytes())?;
+    out.append(reason_text(reason))?;
+    out.append(b"\n")
+}
+
+fn print_told(alloc: Global, out: &mut Blob, told: &Told) -> Result<(), NoMemory>
+    ensures { OnOk result (out.new ≡ out.old ++ told_line told.now) }
+{
+    match told {
+        Told::Replied {
+            line,
+            client,
+            answer,
+        } => print_reply(alloc, out, *line, client, *answer),
+        Told::Refused { line, reason } => print_refusal(alloc, out, *line, *reason),
+    }
+}
+
+fn print_all_told(alloc: Global, out: &mut Blob, all: &[Told]) -> Result<(), NoMemory>
+    ensures { OnOk result (out.new ≡ out.old ++ flat_map told_line all.now) }
+{
+    for told in all {
+        print_told(alloc, out, told)?;
     }
     Ok(())
 }
 
-/// The end of a journal and how many of its messages are committed.
-fn measure(shard: &Option<ShardSpec>, plain: &PlainShard, name: &[u8]) -> (usize, usize)
-    ensures end { result.0 ≡ end_of (messages_in shard.now plain.now.plain name.now) }
-    ensures committed { result.1 ≡ count_committed (messages_in shard.now plain.now.plain name.now) }
+fn print_text(alloc: Global, out: &mut Blob, name: &Name, text: &[u8]) -> Result<(), NoMemory>
+    requires { length text.now ≤ 2 ^ 62 }
+    ensures { OnOk result (out.new ≡ out.old ++ journal_text name.now text.now) }
 {
-    if is_source_of(shard, name) {
-        return (plain.source_end(), plain.source_committed());
-    }
-    if is_output_of(shard, name) {
-        return (plain.output_end(), plain.output_committed());
-    }
-    (0, 0)
+    let end = text.len();
+    let committed = count_committed(alloc, text)?;
+    let name = name.as_str();
+    let line = format!(in alloc; "journal {name} {end} {committed} -\n")?;
+    out.append(line.as_bytes())
 }
 
 fn print_journal(
     alloc: Global,
     out: &mut Blob,
-    shard: &Option<ShardSpec>,
-    plain: &PlainShard,
+    cluster: &Cluster,
     name: &Name,
-    content: Content,
+    framing: Framing,
 ) -> Result<(), NoMemory>
-    ensures { OnOk result (out.new ≡ out.old ++ journal_line shard.now plain.now.plain (name.now, content)) }
+    ensures { OnOk result (out.new ≡ out.old ++ journal_line cluster.now.journals (name.now, framing)) }
 {
-    match content {
-        Content::RecoveryLog => Ok(()),
-        Content::Lines => {
-            let (end, committed) = measure(shard, plain, name.as_slice());
-            let name = name.as_str();
-            let text = format!(in alloc; "journal {name} {end} {committed} -\n")?;
-            out.append(text.as_bytes())
+    match framing {
+        Framing::RecoveryLog => Ok(()),
+        Framing::Lines | Framing::FixedFrames | Framing::Bytes => {
+            print_text(alloc, out, name, text_in(cluster, name.as_slice()))
         }
     }
 }
@@ -95,74 +145,85 @@ fn print_journal(
 fn print_journals(
     alloc: Global,
     out: &mut Blob,
-    specs: &Specs,
-    plain: &PlainShard,
+    cluster: &Cluster,
+    journals: &[JournalSpec],
 ) -> Result<(), NoMemory>
-    ensures { OnOk result (out.new ≡ out.old ++ flat_map (journal_line specs.now.shard plain.now.plain) (in_name_order specs.now.journals)) }
+    ensures { OnOk result (out.new ≡ out.old ++ flat_map (journal_line cluster.now.journals) (in_name_order journals.now)) }
 {
-    let table = in_order(alloc, specs.journals.as_slice())?;
-    for (name, content) in &table.entries {
-        print_journal(alloc, out, &specs.shard, plain, name, *content)?;
+    let table = in_name_order(alloc, journals)?;
+    for (name, framing) in &table.entries {
+        print_journal(alloc, out, cluster, name, *framing)?;
     }
     Ok(())
 }
 
-/// Whether the shard has read all that its source has committed.
-fn status_text(plain: &PlainShard) -> &'static [u8]
-    ensures { result.now ≡ status_of plain.now.plain }
+/// Whether the shard has read all that its sources have committed, and why not.
+fn status_text(report: &ShardReport) -> &'static [u8]
+    ensures { result.now ≡ status_of report.now }
 {
-    if plain.messages_read() == plain.source_committed() {
-        b"caught"
+    if report.is_caught {
+        return b"caught";
+    }
+    if report.is_disabled {
+        b"stalled disabled"
     } else {
         b"behind"
     }
 }
 
-fn shard_text(alloc: Global, shard: &ShardSpec, plain: &PlainShard) -> Result<Blob, NoMemory>
-    ensures { IfOk result (λ text. text ≡ shard_line (Some shard.now) plain.now.plain) }
-{
-    let id = shard.id.as_str();
-    let commits = plain.commits();
-    let messages = plain.messages_read();
-    let head = format!(in alloc; "shard {id} {commits} {messages} ")?;
-    let store = plain.print_store(alloc)?;
-    let mut text = Blob::of(alloc, head.as_bytes())?;
-    text.append(status_text(plain))?;
-    text.append(b" ")?;
-    text.append(store.as_slice())?;
-    text.append(b"\n")?;
-    Ok(text)
-}
-
 fn print_shard(
     alloc: Global,
     out: &mut Blob,
-    shard: &Option<ShardSpec>,
-    plain: &PlainShard,
+    id: &Name,
+    report: &ShardReport,
 ) -> Result<(), NoMemory>
-    ensures { OnOk result (out.new ≡ out.old ++ shard_line shard.now plain.now.plain) }
+    ensures { OnOk result (out.new ≡ out.old ++ shard_line id.now report.now) }
 {
-    match shard {
-        None => Ok(()),
-        Some(shard) => {
-            let text = shard_text(alloc, shard, plain)?;
-            out.append(text.as_slice())
-        }
-    }
+    let id = id.as_str();
+    let commits = report.commits;
+    let messages = report.messages;
+    let head = format!(in alloc; "shard {id} {commits} {messages} ")?;
+    out.append(head.as_bytes())?;
+    out.append(status_text(report))?;
+    out.append(b" ")?;
+    out.append(report.store.as_slice())?;
+    out.append(b"\n")
 }
 
-/// The report of these specifications, replies and shard.
+/// A line for each shard, by what is told of the shards in the same order.
+fn print_shards(
+    alloc: Global,
+    out: &mut Blob,
+    table: &ShardTable,
+    reports: &[ShardReport],
+) -> Result<(), NoMemory>
+    ensures { OnOk result (out.new ≡ out.old ++ shard_lines table.now reports.now) }
+{
+    let mut place = 0;
+    for (id, _shard) in &table.entries {
+        let Some(report) = reports.get(place) else {
+            return Ok(());
+        };
+        print_shard(alloc, out, id, report)?;
+        place += 1;
+    }
+    Ok(())
+}
+
+/// The report of these specifications, of what was told, and of the journals and shards.
 pub fn print(
     alloc: Global,
     specs: &Specs,
-    replies: &[Reply],
-    plain: &PlainShard,
+    told: &[Told],
+    cluster: &Cluster,
 ) -> Result<Blob, NoMemory>
-    ensures { IfOk result (λ text. text ≡ report_of (record { specs = specs.now; replies = replies.now; shard = plain.now })) }
+    ensures { IfOk result (λ text. text ≡ report_of (record { specs = specs.now; told = told.now; cluster = cluster.now })) }
 {
     let mut out = Blob::new(alloc);
-    print_replies(alloc, &mut out, replies)?;
-    print_journals(alloc, &mut out, specs, plain)?;
-    print_shard(alloc, &mut out, &specs.shard, plain)?;
+    print_all_told(alloc, &mut out, told)?;
+    print_journals(alloc, &mut out, cluster, specs.journals.as_slice())?;
+    let table = in_id_order(alloc, specs.shards.as_slice())?;
+    let reports = cluster.reports(alloc)?;
+    print_shards(alloc, &mut out, &table, reports.as_slice())?;
     Ok(out)
 }

@@ -4,10 +4,10 @@ use Rattle.gz_ctl.proofs.Verdicts.{promise_kept, usage_front, verdict_done, verd
 use Rattle.gz_ctl.proofs.command.gazctl.Goals as goal
 
 pub returns-in-Err-clause-exactly_once : goal.returns-in-Err-clause-exactly_once
-returns-in-Err-clause-exactly_once g c = promise_kept c.every_run_is_exactly_once.ensures c.a_settle_reads_all.ensures _
+returns-in-Err-clause-exactly_once g c = promise_kept c.every_run_is_exactly_once.ensures c.a_settle_ends_every_run.ensures _
 
 pub returns-in-Ok-clause-exactly_once : goal.returns-in-Ok-clause-exactly_once
-returns-in-Ok-clause-exactly_once g c = promise_kept c.every_run_is_exactly_once.ensures c.a_settle_reads_all.ensures _
+returns-in-Ok-clause-exactly_once g c = promise_kept c.every_run_is_exactly_once.ensures c.a_settle_ends_every_run.ensures _
 
 pub returns-in-Ok-clause-usage : goal.returns-in-Ok-clause-usage
 returns-in-Ok-clause-usage g c = λ is. absurd (verdict_no_usage _ _ _ _ _ _ _ c.in-Ok.ensures.verdict c.say.ensures.answers is)
@@ -34,7 +34,7 @@ pub returns-in-Ok-clause-complete : goal.returns-in-Ok-clause-complete
 returns-in-Ok-clause-complete g c = λ command has. verdict_complete _ _ _ _ _ _ _ _ has c.in-Ok.ensures.verdict c.say.ensures.answers c.say.ensures.fault
 
 pub returns-clause-exactly_once : goal.returns-clause-exactly_once
-returns-clause-exactly_once g c = promise_kept c.every_run_is_exactly_once.ensures c.a_settle_reads_all.ensures _
+returns-clause-exactly_once g c = promise_kept c.every_run_is_exactly_once.ensures c.a_settle_ends_every_run.ensures _
 
 pub returns-clause-write_fault : goal.returns-clause-write_fault
 returns-clause-write_fault g c = λ is. (c.say-2.ensures.fault is, usage_front _ _ _ _ _ (sym c.is_replay.ensures ∙ c.if-is_replay.false) (c.say-2.ensures.front is))

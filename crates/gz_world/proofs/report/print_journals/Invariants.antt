@@ -4,5 +4,5 @@ use Rattle.gz_world.proofs.report.print_journals.Given as goal
 
 abbrev pub invariant-loop-name : goal.invariant-loop-name
 invariant-loop-name l =
-    let line = journal_line l.fn.specs.shard l.fn.plain.plain in
-    l.out ++ flat_map line l.name-iterator ≡ l.fn.out ++ flat_map line (in_name_order l.fn.specs.journals)
+    let line = journal_line l.cluster.journals in
+    l.out ++ flat_map line l.name-iterator ≡ l.fn.out ++ flat_map line (in_name_order l.journals)
