@@ -1,0 +1,90 @@
+"""Scenarios of any size, and what the program has to say of them.
+
+A work's function writes a scenario of about so many messages, and answers how many lines and messages it has and
+what its report has to end with.
+"""
+import json
+
+MOST_LINES = 65535
+SETTLE = '{"do":"settle"}\n'
+
+
+def journal(name, kind="x-ndjson"):
+    return {"name": name, "labels": {"content-type": ["application/" + kind]}}
+
+
+def shard(id, sources, app, outputs):
+    labels = {"app": [app], "output": outputs} if outputs else {"app": [app]}
+    return {
+        "id": id,
+        "sources": [{"journal": name} for name in sources],
+        "recovery_log_prefix": "recovery",
+        "labels": labels,
+    }
+
+
+def specs(names, shards):
+    logs = [journal("recovery/" + each["id"], "x-gazette-recoverylog") for each in shards]
+    first = {"do": "specs", "journals": [journal(name) for name in names] + logs, "shards": shards}
+    return json.dumps(first, separators=(",", ":")) + "\n"
+
+
+def publish(name, first, count):
+    """A publish of so many messages, from this clock on. There are a hundred keys."""
+    messages = ",".join(
+        '{"flag":"outside","clock":%d,"key":"key%d","value":"1"}' % (clock, clock % 100)
+        for clock in range(first, first + count)
+    )
+    return '{"do":"publish","client":"k1","journal":"%s","messages":[%s]}\n' % (name, messages)
+
+
+def settles(out, messages):
+    """One shard that counts. A publish has one message, and a settle follows after every hundredth. The scenario
+    ends earlier where it would have more lines than a scenario may."""
+    out.write(specs(["out", "src/a"], [shard("s1", ["src/a"], "count", ["out"])]))
+    lines, published, settled = 1, 0, 0
+    while published < messages and lines < MOST_LINES:
+        published += 1
+        out.write(publish("src/a", published, 1))
+        lines += 1
+        if published % 100 == 0 and lines < MOST_LINES:
+            out.write(SETTLE)
+            lines += 1
+            settled = published
+    status = "caught" if published == settled else "behind"
+    return lines, published, ["shard s1 %d %d %s " % (settled // 100, settled, status)]
+
+
+def many(out, messages):
+    """64 shards that count. Each of 16 sources is read by four of them, and each has an output of its own. A publish
+    has a hundred messages, and a settle follows when each source has got one."""
+    sources = ["src/%02d" % i for i in range(16)]
+    shards = [
+        shard("s%02d" % i, [sources[i % 16]], "count", ["out/%02d" % i]) for i in range(64)
+    ]
+    out.write(specs(sources + ["out/%02d" % i for i in range(64)], shards))
+    rounds = messages // 1600
+    for number in range(rounds):
+        for name in sources:
+            out.write(publish(name, 1 + 100 * number, 100))
+        out.write(SETTLE)
+    told = ["shard s%02d %d %d caught " % (i, rounds, 100 * rounds) for i in range(64)]
+    return 1 + 17 * rounds, 1600 * rounds, told
+
+
+def chain(out, messages):
+    """64 shards in a row, each of which passes on what the one behind it writes. Their ids stand against the
+    direction of the row, so a settle needs as many rounds as there are shards. A publish has ten messages, and a settle
+    follows after every tenth."""
+    names = ["j%02d" % i for i in range(65)]
+    shards = [
+        shard("s%02d" % i, [names[64 - i - 1]], "relay", [names[64 - i]]) for i in range(64)
+    ]
+    out.write(specs(names, shards))
+    rounds = messages // 100
+    for number in range(rounds):
+        for i in range(10):
+            out.write(publish("j00", 1 + 100 * number + 10 * i, 10))
+        out.write(SETTLE)
+    told = ["shard s%02d %d %d caught " % (i, rounds, 100 * rounds) for i in range(64)]
+    return 1 + 11 * rounds, 100 * rounds, told
