@@ -84,6 +84,7 @@ longer_line [] more n none found = some_line more n found
     by_first true o n found = rw (← some_inj found) (omega arith)
     by_first false None n found = absurd (none_some found)
     by_first false (Some k) n found = rw (← some_inj found) (omega arith)
+
     some_line : (text : List ℕ) (n : ℕ) → line_len text ≡ Some n → 0 < n
     some_line [] n found = absurd (none_some found)
     some_line (b ∷ bs) n found = by_first (b == newline) (line_len bs) n found

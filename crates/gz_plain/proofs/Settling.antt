@@ -63,14 +63,14 @@ round_turn start all js new done done2 ahead ahead2 s after q step_quiet q2 next
       ahead = all_kept_grown js new ahead2 g kept_ahead.1;
       names = g.names ∙ inv.names;
       quiet = λ yes_.
-      let yes_both : (q && step_quiet) ≡ true = sym both ∙ yes_ in
-      let before = inv.quiet (quiet_first q step_quiet yes_both) in
-      let same = same_shard js new sh (shard_of after) (is ∙ quiet (quiet_second q step_quiet yes_both)) in (
-        same.0 ∙ before.0,
-        ap (λ (xs : List shards.Shard). xs ++ shards_of ahead2) (seen ∙ ap (λ (x : shards.Shard). shards_of done ++ x ∷ []) same.1)
-            ∙ append_assoc (shards_of done) (sh ∷ []) (shards_of ahead2)
-            ∙ ap (λ (ss : List Shard). shards_of done ++ shards_of ss) (sym next) ∙ before.1,
-      );
+          let yes_both : (q && step_quiet) ≡ true = sym both ∙ yes_ in
+          let before = inv.quiet (quiet_first q step_quiet yes_both) in
+          let same = same_shard js new sh (shard_of after) (is ∙ quiet (quiet_second q step_quiet yes_both)) in (
+            same.0 ∙ before.0,
+            ap (λ (xs : List shards.Shard). xs ++ shards_of ahead2) (seen ∙ ap (λ (x : shards.Shard). shards_of done ++ x ∷ []) same.1)
+                ∙ append_assoc (shards_of done) (sh ∷ []) (shards_of ahead2)
+                ∙ ap (λ (ss : List Shard). shards_of done ++ shards_of ss) (sym next) ∙ before.1,
+          );
     }
 
 -- a round is done

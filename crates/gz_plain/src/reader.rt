@@ -170,11 +170,7 @@ impl Model for Readers {
 }
 
 /// The messages that each reader's journal has new, one reader after another.
-fn peek_all(
-    alloc: Global,
-    readers: &[Reader],
-    journals: &Journals,
-) -> Result<Messages, NoMemory>
+fn peek_all(alloc: Global, readers: &[Reader], journals: &Journals) -> Result<Messages, NoMemory>
     requires { AreRead journals.now readers.now }
     ensures { IfOk result (λ messages. messages ≡ all_news journals.now readers.now) }
 {
