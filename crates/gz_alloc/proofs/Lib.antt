@@ -6,6 +6,9 @@ pub mod Counts
 pub mod Walk
 pub mod NameLemmas
 pub mod TableLemmas
+pub mod TallyLemmas
+pub mod PlaceLemmas
+pub mod RiseLemmas
 pub mod PickLemmas
 pub mod Certificate
 pub mod PlainLemmas

@@ -34,13 +34,13 @@ same_equal a b h = (bytes_decides a b).0 h
 pub same_itself : (a : List ℕ) → same a a ≡ true
 same_itself a = nat_list_eq_equiv.refl a
 
-less_from : (o : Ordering) → is_lt o ≡ true → o ≡ Less
+pub less_from : (o : Ordering) → is_lt o ≡ true → o ≡ Less
 less_from Less h = refl
 less_from Equal h = let bad : false ≡ true = h in cc
 less_from Greater h = let bad : false ≡ true = h in cc
 
 -- each name is below the next
-step : (names : List (List ℕ)) → rises names ≡ true → (i : ℕ) → i + 1 < length names → slice_cmp nat_cmp (name_at names i) (name_at names (i + 1)) ≡ Less
+pub step : (names : List (List ℕ)) → rises names ≡ true → (i : ℕ) → i + 1 < length names → slice_cmp nat_cmp (name_at names i) (name_at names (i + 1)) ≡ Less
 step names h i lt = less_from (slice_cmp nat_cmp (name_at names i) (name_at names (i + 1))) (on (nat_lt (i + 1) (length names)) (is_lt (slice_cmp nat_cmp (name_at names i) (name_at names (i + 1)))) (lt-ltb (i + 1) (length names) lt) (all_to_at (length names) (rises_at names) h i (omega arith)))
   where
     on : (a b : Bool) → a ≡ true → cond a b true ≡ true → b ≡ true

@@ -68,13 +68,13 @@ same_bools true b f g = sym (f refl)
 same_bools false true f g = g refl
 same_bools false false f g = refl
 
-item_below : (asked : Asked) (i : ℕ) → i < items (net_of asked) → i < length (item_names asked)
+pub item_below : (asked : Asked) (i : ℕ) → i < items (net_of asked) → i < length (item_names asked)
 item_below asked i li = below i (items (net_of asked)) (length (item_names asked)) (length-map asked.items (λ i. i.replicas) ∙ sym (length-map asked.items (λ i. i.name))) li
   where
     below : (i a b : ℕ) → a ≡ b → i < a → i < b
     below i a b p q = omega arith
 
-member_below : (asked : Asked) (m : ℕ) → m < members (net_of asked) → m < length (member_names asked)
+pub member_below : (asked : Asked) (m : ℕ) → m < members (net_of asked) → m < length (member_names asked)
 member_below asked m lm = below m (members (net_of asked)) (length (member_names asked)) (length-map asked.members (λ m. m.limit) ∙ sym (length-map asked.members (λ m. m.name))) lm
   where
     below : (i a b : ℕ) → a ≡ b → i < a → i < b

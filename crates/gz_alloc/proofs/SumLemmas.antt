@@ -1,5 +1,5 @@
 -- Lemmas on sums and counts.
-use Rattle.std.proofs.Common.{◌≡◌, ℕ, ◌+◌, ◌*◌, ◌<◌, ◌≤◌, ◌≢◌, Bool, true, false, refl, ap, ◌∙◌, sym, arith, ⊎_elim, add-one}
+use Rattle.std.proofs.Common.{◌≡◌, ℕ, ◌+◌, ◌*◌, ◌<◌, ◌≤◌, ◌≢◌, Bool, true, false, refl, ap, ◌∙◌, sym, arith, inl, inr, ◌⊎◌, ⊎_elim, add-one}
 use Prim.Native.Nat.{zero, suc}
 use Rattle.std.proofs.lemmas.Bool.{cases_eq}
 use Rattle.gz_alloc.specs.Sums.{when, sum_to, count_to}
@@ -73,3 +73,16 @@ sum_to_most (suc n) f h = let front : sum_to n f ≤ 64 * n = sum_to_most n f (�
 
 pub sum_to_more : (n : ℕ) (f : ℕ → ℕ) → sum_to (n + 1) f ≡ sum_to n f + f n
 sum_to_more n f = rw add-one refl
+
+-- no number passes, or one does
+pub count_to_found : (n : ℕ) (p : ℕ → Bool) → (count_to n p ≡ 0) ⊎ ((j : ℕ) × ((j < n) × (p j ≡ true)))
+count_to_found zero p = inl refl
+count_to_found (suc n) p = at (p n) refl (count_to_found n p)
+  where
+    one_up : (j n : ℕ) → j < n → j < suc n
+    one_up j n lt = omega arith
+
+    at : (b : Bool) → p n ≡ b → (count_to n p ≡ 0) ⊎ ((j : ℕ) × ((j < n) × (p j ≡ true))) → (count_to (suc n) p ≡ 0) ⊎ ((j : ℕ) × ((j < suc n) × (p j ≡ true)))
+    at true e rest = inr (n, (omega arith, e))
+    at false e (inl none) = inl (let last : when (p n) 1 ≡ 0 = ap (λ t. when t 1) e in omega arith)
+    at false e (inr found) = inr (found.0, (one_up found.0 n found.1.0, found.1.1))

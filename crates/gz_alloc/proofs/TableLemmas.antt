@@ -6,7 +6,7 @@ use Rattle.std.proofs.lemmas.Bool.{cases_eq, cases_Bool, and_parts, ltb-true, lt
 use Rattle.gz_alloc.specs.Sums.{when}
 use Rattle.gz_alloc.specs.Flow.{Net, IsNet, IsTable, Cells, Keeps, items, members, replicas, limit, zone, row, load, in_zone, zone_bound, total, Differs, cells_of, set_cell}
 use Rattle.gz_alloc.specs.Names.{Asked, net_of, item_names, member_names, is_known, place_of, name_at, same, paired, is_problem, fits, add_where_fits, keep_pair, keep_pairs, fill_row, fill, greedy, mark_pair, mark_pairs, Agree}
-use Rattle.gz_alloc.proofs.SumLemmas.{sum_to_zero, sum_to_eq}
+use Rattle.gz_alloc.proofs.SumLemmas.{sum_to_zero, sum_to_eq, count_to_found}
 use Rattle.gz_alloc.proofs.Counts.{row_other, row_at, load_other, load_at, in_zone_other, in_zone_at, differs_set}
 use Rattle.gz_alloc.proofs.NameLemmas.{asked_facts, same_place}
 
@@ -141,7 +141,7 @@ pub good_greedy : (asked : Asked) (now : List (List ℕ × List ℕ)) → IsNet 
 good_greedy asked now ok = good_fill (net_of asked) (items (net_of asked)) _ ok (omega arith) (good_keep_pairs asked now (replicate (64 * items (net_of asked)) false) ok (good_none (net_of asked)))
 
 -- what the pair says of an item and a member
-abbrev hit : Asked → List ℕ × List ℕ → ℕ → ℕ → Bool
+abbrev pub hit : Asked → List ℕ × List ℕ → ℕ → ℕ → Bool
 hit asked p i m = same p.0 (name_at (item_names asked) i) && same p.1 (name_at (member_names asked) m)
 
 or_true : (b : Bool) → (b || true) ≡ true
@@ -163,7 +163,7 @@ hit_at asked problem p i m li lm =
     below i a b p q = omega arith
 
 -- a pair in a table
-mark_cell : (asked : Asked) → is_problem asked ≡ true → (flags : List Bool) → IsNet (net_of asked) → IsTable (net_of asked) flags → (p : List ℕ × List ℕ) (i m : ℕ) → i < items (net_of asked) → m < members (net_of asked) →
+pub mark_cell : (asked : Asked) → is_problem asked ≡ true → (flags : List Bool) → IsNet (net_of asked) → IsTable (net_of asked) flags → (p : List ℕ × List ℕ) (i m : ℕ) → i < items (net_of asked) → m < members (net_of asked) →
     cells_of (mark_pair asked flags p) i m ≡ (cells_of flags i m || hit asked p i m)
 mark_cell asked problem flags ok table p i m li lm = at (is_known asked p) refl
   where
@@ -225,7 +225,7 @@ mark_cell asked problem flags ok table p i m li lm = at (is_known asked p) refl
         ∙ sym (ap (λ b. cells_of flags i m || b) (hit_is ∙ neither (i0 == i) (m0 == m) (λ a b. clash (is_known asked p)
         (both (nat_lt i0 (items (net_of asked))) (nat_lt m0 (members (net_of asked))) (lt-ltb i0 (items (net_of asked)) (small i0 i (eqb-true i0 i a) (items (net_of asked)) li)) (lt-ltb m0 (members (net_of asked)) (small m0 m (eqb-true m0 m b) (members (net_of asked)) lm))) h)))
 
-mark_table : (asked : Asked) (flags : List Bool) (p : List ℕ × List ℕ) → length (mark_pair asked flags p) ≡ length flags
+pub mark_table : (asked : Asked) (flags : List Bool) (p : List ℕ × List ℕ) → length (mark_pair asked flags p) ≡ length flags
 mark_table asked flags p = at (is_known asked p) refl
   where
     marked : List Bool
@@ -266,3 +266,16 @@ agree_total net x y same = sum_to_eq (items net) (λ i. row net x i) (λ i. row 
 
 pub agree_back : (net : Net) (x y : Cells) → Agree net x y → Agree net y x
 agree_back net x y same i m li lm = sym (same i m li lm)
+
+-- a bound that holds in the zone of each member that has the item holds in each zone
+pub zones_of_pairs : (net : Net) (x : Cells) (i bound : ℕ) → ((m : ℕ) → m < members net → x i m ≡ true → in_zone net x i (zone net m) ≤ bound) → (m : ℕ) → in_zone net x i (zone net m) ≤ bound
+zones_of_pairs net x i bound kept m = at (count_to_found (members net) (λ n. x i n && (zone net n == zone net m)))
+  where
+    none : (a : ℕ) → a ≡ 0 → a ≤ bound
+    none a e = omega arith
+
+    at : (in_zone net x i (zone net m) ≡ 0) ⊎ ((n : ℕ) × ((n < members net) × ((x i n && (zone net n == zone net m)) ≡ true))) → in_zone net x i (zone net m) ≤ bound
+    at (inl e) = none (in_zone net x i (zone net m)) e
+    at (inr found) =
+        let both = and_parts (x i found.0) (zone net found.0 == zone net m) found.1.1 in
+        subst (λ z. in_zone net x i z ≤ bound) (eqb-true (zone net found.0) (zone net m) both.1) (kept found.0 found.1.0 both.0)

@@ -1,4 +1,6 @@
 pub mod Sums
+pub mod Rising
+pub mod Tally
 pub mod Flow
 pub mod Search
 pub mod Names

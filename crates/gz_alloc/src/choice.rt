@@ -1,6 +1,7 @@
 //! The placement of a problem.
 ghost use Rattle.std.specs.Prelude.{◌≡◌, ℕ, ◌+◌, ◌<◌, ◌≤◌, ◌&&◌, ◌++◌, length, true, false, ◌*◌, replicate, IfOk, OnOk};
 ghost use Rattle.gz_alloc.specs.Flow.{IsNet, IsTable, Cells, items, members, zone, cells_of, Keeps, total, free, is_zone};
+ghost use Rattle.gz_alloc.specs.Rising.{rising};
 ghost use Rattle.gz_alloc.specs.Search.{IsSearch, is_chosen, is_zone_chosen};
 ghost use Rattle.gz_alloc.specs.Names.{Asked, net_of, is_problem, item_names, member_names, zone_names, name_at, IsFeasible, IsFeasibleOf, IsChoice, size, greedy, greedy_pairs, picks, gather, pairs_of, mark_pairs, cut_members, cut_zones, cut_capacity};
 
@@ -48,6 +49,7 @@ fn placement_of(
 ) -> Result<Placement, NoMemory>
     requires net { IsNet network.now }
     requires numbers { network.now ≡ net_of problem.now }
+    requires problem { is_problem problem.now ≡ true }
     requires table { IsTable network.now flags.now }
     ensures { IfOk result (λ placement. placement ≡ pairs_of problem.now (cells_of flags.now)) }
 {
@@ -55,7 +57,7 @@ fn placement_of(
     for i in 0..network.items() {
         push_row(problem, network, flags, i, &mut pairs)?;
     }
-    Ok(Placement::of(pairs))
+    Ok(Placement::of_rising(pairs))
 }
 
 /// The members that the search chooses.
@@ -106,10 +108,13 @@ fn is_cut(network: &Network, search: &Search, i: usize, z: usize) -> bool
     requires within { z < members network.now }
     ensures { result ≡ (is_zone network.now z && is_zone_chosen network.now search.now i z) }
 {
-    let stands = network.zone(z) == z;
-    let untargeted = !search.has_target(i);
-    let has_way = 0 < free(network, search, z);
-    stands & (untargeted & has_way)
+    if network.zone(z) != z {
+        return false;
+    }
+    if search.has_target(i) {
+        return false;
+    }
+    0 < free(network, search, z)
 }
 
 /// Puts the item's pairs with zones that the search chooses at the end.
@@ -198,6 +203,7 @@ fn choose(
     requires keeps { Keeps network.now (cells_of flags.now) }
     ensures feasible { IfOk result (λ placement. IsFeasibleOf problem.now placement (total network.now (cells_of flags.now))) }
     ensures choice { IfOk result (λ placement. IsChoice problem.now now.now goal.now placement (total network.now (cells_of flags.now))) }
+    ensures ordered { IfOk result (λ placement. rising placement ≡ true) }
 {
     let greatest = total(network, flags);
     let stays = is_of_size(alloc, problem, network, now, greatest)?;
@@ -265,6 +271,7 @@ fn finish(
     requires keeps { Keeps network.now (cells_of flags.old) }
     ensures feasible { IfOk result (λ answer. IsFeasible problem.now answer.0) }
     ensures cut { IfOk result (λ answer. cut_capacity problem.now answer.1.members.items answer.1.zones.items ≡ size problem.now answer.0) }
+    ensures length { IfOk result (λ answer. size problem.now answer.0 ≡ length answer.0) }
     ensures choice { IfOk result (λ answer. IsChoice problem.now now.now goal.now answer.0 (size problem.now answer.0)) }
 {
     let search = solve(alloc, network, flags)?;
@@ -274,7 +281,8 @@ fn finish(
     Ok((placement, Cut { zones, members }))
 }
 
-/// A feasible placement of the greatest size, and a cut whose capacity is its size, so none is greater. Of the
+/// A feasible placement of the greatest size, which is the number of its pairs, and a cut whose capacity is its size, so
+/// none is greater. Of the
 /// placements of that size it is the first of: `now`, where it is feasible; the greedy placement, which takes the
 /// pairs of `now` in order and then all pairs in order, each where the result stays feasible; `goal`, where it is
 /// feasible; any other.
@@ -286,6 +294,7 @@ pub fn place(
 ) -> Result<(Placement, Cut), NoMemory>
     ensures feasible { IfOk result (λ answer. IsFeasible problem.now answer.0) }
     ensures cut { IfOk result (λ answer. cut_capacity problem.now answer.1.members.items answer.1.zones.items ≡ size problem.now answer.0) }
+    ensures length { IfOk result (λ answer. size problem.now answer.0 ≡ length answer.0) }
     ensures choice { IfOk result (λ answer. IsChoice problem.now now.now goal.now answer.0 (size problem.now answer.0)) }
 {
     let network = network_of(alloc, problem)?;

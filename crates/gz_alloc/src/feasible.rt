@@ -4,13 +4,13 @@ ghost use Rattle.std.specs.List.{list_all};
 ghost use Rattle.gz_alloc.specs.Flow.{IsNet, IsTable, items, members, replicas, limit, zone, cells_of, row, load, in_zone, zone_bound, Keeps, total};
 ghost use Rattle.gz_alloc.specs.Names.{Asked, net_of, is_known, is_problem, place_of, item_names, member_names, mark_pairs, IsFeasible, IsFeasibleOf, size};
 
-use crate::network::{Network, bound_of};
+use crate::network::{Network, bound_of, cell};
 use crate::problem::{Placement, Problem};
 use crate::table::table_of;
 use gz_label::{Name, NoMemory};
 use std::alloc::Global;
 
-/// Whether the item keeps its bound in each zone.
+/// Whether the item keeps its bound in each zone. A zone that has none of it needs no count.
 fn zones_keep(network: &Network, flags: &[bool], i: usize) -> bool
     requires net { IsNet network.now }
     requires table { IsTable network.now flags.now }
@@ -20,8 +20,7 @@ fn zones_keep(network: &Network, flags: &[bool], i: usize) -> bool
 {
     let bound = bound_of(network.replicas(i));
     for m in 0..network.members() {
-        let zone = network.zone(m);
-        if bound < network.in_zone(flags, i, zone) {
+        if cell(flags, i, m) && bound < network.in_zone(flags, i, network.zone(m)) {
             return false;
         }
     }
@@ -81,7 +80,7 @@ fn is_known(problem: &Problem, network: &Network, pair: &(Name, Name)) -> bool
     requires numbers { network.now ≡ net_of problem.now }
     ensures { result ≡ is_known problem.now pair.now }
 {
-    let item = problem.item_place(&pair.0, 0) < network.items();
+    let item = problem.item_place(&pair.0) < network.items();
     let member = problem.member_place(&pair.1) < network.members();
     item & member
 }

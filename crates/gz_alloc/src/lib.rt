@@ -10,6 +10,9 @@ mod problem;
 mod search;
 mod solve;
 mod table;
+mod tally;
+#[cfg(test)]
+mod tests;
 
 pub use choice::place;
 pub use laws::{no_placement_passes_a_cut, no_table_passes_a_cut};

@@ -1,13 +1,16 @@
 //! Problems, placements and cuts by names.
-ghost use Rattle.std.specs.Prelude.{◌≡◌, ℕ, ◌+◌, ◌*◌, ◌<◌, ◌≤◌, [], length, map, Some, None, IfOk, replicate, if◌then◌else◌, ◌&&◌, ◌==◌, true, nat_lt, nat_le, slice_index};
-ghost use Rattle.std.specs.Ordering.{is_lt};
+ghost use Rattle.std.specs.Prelude.{◌≡◌, ℕ, ◌+◌, ◌*◌, ◌<◌, ◌≤◌, [], length, map, Some, None, IfOk, IfErr, replicate, if◌then◌else◌, ◌&&◌, ◌==◌, true, nat_lt, nat_le, slice_index};
+ghost use Rattle.std.specs.Ordering.{is_lt, nat_cmp};
+ghost use Rattle.std.specs.Cmp.Lexicographic.{slice_cmp};
 ghost use Rattle.gz_alloc.specs.Sums.{all_to};
+ghost use Rattle.gz_alloc.specs.Rising.{below_next, rising};
 ghost use Rattle.gz_alloc.specs.Flow.{items, members};
 ghost use Rattle.gz_alloc.specs.Names.{Asked, is_problem, item_names, member_names, zone_names, name_at, place_of, rises_at, rises, net_of};
 
 use crate::network::Network;
 use gz_label::{Name, NoMemory};
 use std::alloc::{AllocError, Global};
+use std::cmp::Ordering;
 use std::marker::Model;
 
 /// The most items of a problem.
@@ -64,28 +67,28 @@ fn zone_place(members: &[Member], zone: &Name) -> usize
     members.len()
 }
 
-/// The place of the item's name, or how many items there are.
-fn item_place(items: &[Item], name: &Name) -> usize
-    ensures { result ≡ place_of name.now (map (λ i. i.name) items.now) }
+/// The place of the item's name; else Err with the place that it would have.
+fn find_item(items: &[Item], name: &Name) -> Result<usize, usize>
+    requires { rises (map (λ i. i.name) items.now) ≡ true }
+    ensures found { IfOk result (λ i. i ≡ place_of name.now (map (λ i. i.name) items.now)) }
+    ensures absent { IfErr result (λ _. length items.now ≡ place_of name.now (map (λ i. i.name) items.now)) }
 {
-    for at in 0..items.len() {
-        if items[at].name == *name {
-            return at;
-        }
-    }
-    items.len()
+    let compare = |item: &Item| -> Ordering
+        ensures { result ≡ slice_cmp nat_cmp item.now.name name.entry.now }
+    { item.name.cmp(name) };
+    items.binary_search_by(compare)
 }
 
-/// The place of the member's name, or how many members there are.
-fn member_place(members: &[Member], name: &Name) -> usize
-    ensures { result ≡ place_of name.now (map (λ m. m.name) members.now) }
+/// The place of the member's name; else Err with the place that it would have.
+fn find_member(members: &[Member], name: &Name) -> Result<usize, usize>
+    requires { rises (map (λ m. m.name) members.now) ≡ true }
+    ensures found { IfOk result (λ m. m ≡ place_of name.now (map (λ m. m.name) members.now)) }
+    ensures absent { IfErr result (λ _. length members.now ≡ place_of name.now (map (λ m. m.name) members.now)) }
 {
-    for at in 0..members.len() {
-        if members[at].name == *name {
-            return at;
-        }
-    }
-    members.len()
+    let compare = |member: &Member| -> Ordering
+        ensures { result ≡ slice_cmp nat_cmp member.now.name name.entry.now }
+    { member.name.cmp(name) };
+    members.binary_search_by(compare)
 }
 
 /// Whether the item's name is below that of the next one, if any.
@@ -256,21 +259,24 @@ impl Problem {
         self.members.as_slice()
     }
 
-    /// The place of the item's name, or how many items there are. It is looked for at the hint first.
-    pub(crate) fn item_place(&self, name: &Name, hint: usize) -> usize
+    /// The place of the item's name, or how many items there are.
+    pub(crate) fn item_place(&self, name: &Name) -> usize
         ensures { result ≡ place_of name.now (item_names self.now) }
     {
-        if hint < self.items.len() && self.items[hint].name == *name {
-            return hint;
+        match find_item(self.items.as_slice(), name) {
+            Ok(i) => i,
+            Err(_) => self.items.len(),
         }
-        item_place(self.items.as_slice(), name)
     }
 
     /// The place of the member's name, or how many members there are.
     pub(crate) fn member_place(&self, name: &Name) -> usize
         ensures { result ≡ place_of name.now (member_names self.now) }
     {
-        member_place(self.members.as_slice(), name)
+        match find_member(self.members.as_slice(), name) {
+            Ok(m) => m,
+            Err(_) => self.members.len(),
+        }
     }
 
     /// The problem by numbers.
@@ -338,18 +344,22 @@ fn zone_name(members: &[Member], m: usize) -> Result<Name, NoMemory>
     members[m].zone.copy()
 }
 
-/// A list of pairs of an item and a member, which a contract sees as the list of their names.
+/// Pairs of an item and a member, in the order of items and at one item of members, so that none comes twice. A contract
+/// sees them as the list of their names.
 #[derive(Debug, Drop)]
 pub struct Placement {
     pairs: Vec<(Name, Name)>,
 }
 
 impl Model for Placement {
-    ghost use Rattle.std.specs.Prelude.{List, ℕ};
+    ghost use Rattle.std.specs.Prelude.{◌≡◌, List, ℕ, true};
+    ghost use Rattle.gz_alloc.specs.Rising.{rising};
 
     ghost Value = { List (List ℕ × List ℕ) };
 
     ghost view = { λ a. a.pairs.items };
+
+    ghost invariant = { λ a. rising a.pairs.items ≡ true };
 }
 
 /// The copy of a list of pairs.
@@ -363,9 +373,59 @@ fn copy_pairs(alloc: Global, pairs: &[(Name, Name)]) -> Result<Vec<(Name, Name)>
     Ok(copy)
 }
 
+/// Whether the pair is below the next one, if any.
+fn pair_rises(pairs: &[(Name, Name)], k: usize) -> bool
+    requires { k < length pairs.now }
+    ensures { result ≡ below_next pairs.now k }
+{
+    if k + 1 < pairs.len() {
+        let items = pairs[k].0.cmp(&pairs[k + 1].0);
+        let members = pairs[k].1.cmp(&pairs[k + 1].1);
+        items.then(members).is_lt()
+    } else {
+        true
+    }
+}
+
+/// Whether each pair is below the next one.
+#[tactic(auto, using(crate::proofs::NameLemmas::all_to_fails))]
+fn pairs_rise(pairs: &[(Name, Name)]) -> bool
+    ensures { result ≡ rising pairs.now }
+{
+    for k in 0..pairs.len() {
+        let rises = pair_rises(pairs, k);
+        if !rises {
+            return false;
+        }
+    }
+    true
+}
+
 impl Placement {
-    /// The placement of these pairs. It takes no memory.
-    pub fn of(pairs: Vec<(Name, Name)>) -> Placement
+    /// The placement of these pairs, where they rise. Else None. It takes no memory.
+    pub fn of(pairs: Vec<(Name, Name)>) -> Option<Placement>
+        ensures { result ≡ (if rising pairs.items then Some pairs.items else None) }
+    {
+        let rises = pairs_rise(&pairs);
+        if rises {
+            Some(Placement { pairs })
+        } else {
+            None
+        }
+    }
+
+    /// The placement of no pairs. It takes no memory.
+    pub fn none(alloc: Global) -> Placement
+        ensures { result ≡ [] }
+    {
+        Placement {
+            pairs: Vec::new(alloc),
+        }
+    }
+
+    /// The placement of these pairs, which rise.
+    pub(crate) fn of_rising(pairs: Vec<(Name, Name)>) -> Placement
+        requires { rising pairs.items ≡ true }
         ensures { result ≡ pairs.items }
     {
         Placement { pairs }
@@ -380,11 +440,11 @@ impl Placement {
 
     /// An equal value.
     pub fn copy(&self, alloc: Global) -> Result<Placement, NoMemory>
-        ensures { IfOk result (λ copy. copy ≡ self.now) }
+        ensures value { IfOk result (λ copy. copy ≡ self.now) }
+        ensures ordered { IfOk result (λ copy. rising copy ≡ true) }
     {
-        Ok(Placement {
-            pairs: copy_pairs(alloc, self.pairs.as_slice())?,
-        })
+        let pairs = copy_pairs(alloc, self.pairs.as_slice())?;
+        Ok(Placement { pairs })
     }
 }
 

@@ -1,8 +1,10 @@
-use Rattle.std.proofs.Common.{◌≡◌, sym, ap, subst, ◌∙◌}
+use Rattle.std.proofs.Common.{◌≡◌, true, sym, ap, subst, ◌∙◌}
 use Rattle.gz_alloc.specs.Flow.{Keeps, total, cells_of}
+use Rattle.gz_alloc.specs.Rising.{rising}
 use Rattle.gz_alloc.specs.Names.{net_of, greedy, pairs_of, IsFeasibleOf}
 use Rattle.gz_alloc.proofs.Certificate.{greedy_of_size, greedy_not_size}
 use Rattle.gz_alloc.proofs.PickLemmas.{pairs_feasible}
+use Rattle.gz_alloc.proofs.RiseLemmas.{table_rises}
 use Rattle.gz_alloc.proofs.choice.choose.Goals as goal
 
 pub returns-then-count-greatest-clause-feasible : goal.returns-then-count-greatest-clause-feasible
@@ -33,7 +35,7 @@ returns-then-aims-clause-choice c =
       stays = λ h. absurd (c.in_ok-stays.ensures.no c.if-stays.false (subst (λ k. IsFeasibleOf c.args.problem.now c.args.now.now k) (sym c.total-greatest.ensures) h));
       greedy = λ _ s. absurd (greedy_not_size c.args.problem.now c.requires.problem c.args.now.now n
           (λ e. c.if-count-greatest.false (c.total-count.ensures ∙ ap (λ f. total c.args.network.now (cells_of f)) c.requires.first ∙ ap (λ net. total net (cells_of (greedy c.args.problem.now c.args.now.now))) c.requires.numbers ∙ e ∙ sym c.total-greatest.ensures)) s);
-      aims = λ _ _ _. c.in_ok-aim.ensures;
+      aims = λ _ _ _. c.in_ok-aim.ensures.value;
     }
 
 pub returns-clause-feasible : goal.returns-clause-feasible
@@ -52,3 +54,9 @@ returns-clause-choice c =
           (λ e. c.if-count-greatest.false (c.total-count.ensures ∙ ap (λ f. total c.args.network.now (cells_of f)) c.requires.first ∙ ap (λ net. total net (cells_of (greedy c.args.problem.now c.args.now.now))) c.requires.numbers ∙ e ∙ sym c.total-greatest.ensures)) s);
       aims = λ _ _ h. absurd (c.in_ok-aims.ensures.no c.if-aims.false (subst (λ k. IsFeasibleOf c.args.problem.now c.args.goal.now k) (sym c.total-greatest.ensures) h));
     }
+
+pub returns-then-count-greatest-clause-ordered : goal.returns-then-count-greatest-clause-ordered
+returns-then-count-greatest-clause-ordered c = subst (λ l. rising l ≡ true) (sym c.in_ok-kept.ensures) (table_rises c.args.problem.now c.requires.problem (cells_of c.args.first.now))
+
+pub returns-clause-ordered : goal.returns-clause-ordered
+returns-clause-ordered c = subst (λ l. rising l ≡ true) (sym c.in_ok-found.ensures) (table_rises c.args.problem.now c.requires.problem (cells_of c.args.flags.now))
