@@ -1,7 +1,7 @@
 -- Where entries end.
-use Rattle.std.proofs.Common.{◌≡◌, ◌⊎◌, ℕ, zero, suc, ◌+◌, ◌-◌, ◌<◌, ◌≤◌, ◌==◌, ◌&&◌, List, [], ◌∷◌, ◌++◌, length, take, drop, map, min, get_or, flat_map, refl, ap, sym, ◌∙◌, inl, inr, cond, not, nat_lt, Option, Some, None, Bool, true, false, arith, length-append, append_assoc}
+use Rattle.std.proofs.Common.{◌≡◌, ◌⊎◌, ℕ, zero, suc, ◌+◌, ◌-◌, ◌<◌, ◌≤◌, ◌==◌, ◌&&◌, List, [], ◌∷◌, ◌++◌, length, take, drop, min, get_or, refl, ap, sym, ◌∙◌, inl, inr, cond, not, nat_lt, Option, Some, None, Bool, true, false, arith, length-append, append_assoc}
 use Rattle.std.proofs.lemmas.Grind.{common_steps, flat_map-append}
-use Rattle.std.proofs.lemmas.List.{length-take, length-drop, take-map, map-append, take-append-drop, append-nil, drop_all, drop-append-le, take-append-le}
+use Rattle.std.proofs.lemmas.List.{length-take, take-map, map-append, take-append-drop, append-nil, drop_all, drop-append-le, take-append-le}
 use Rattle.std.proofs.lemmas.Bool.{cases_lt}
 use Rattle.std.proofs.Math.Seq.{take-append-add, drop-append-add, take-length, drop-cons}
 use Rattle.gz_label.specs.declared.entry.Entry.{Entry}

@@ -1,6 +1,7 @@
 -- A journal as the list of its entries.
-use Rattle.std.specs.Prelude.{ℕ, ◌+◌, ◌^◌, ◌==◌, ◌&&◌, List, [], ◌∷◌, ◌++◌, length, take, drop, flat_map, Bool, true, false, not, nat_le, nat_lt, Option, Some, None, if◌then◌else◌}
+use Rattle.std.specs.Prelude.{ℕ, ◌+◌, ◌^◌, ◌==◌, List, [], ◌∷◌, ◌++◌, length, take, drop, flat_map, Bool, true, false, not, nat_le, nat_lt, Option, Some, None, if◌then◌else◌}
 use Rattle.gz_label.specs.declared.label.Label.{Label}
+use Rattle.gz_label.specs.declared.entry.Attempt.{Attempt}
 use Rattle.gz_label.specs.declared.entry.Entry.{Entry}
 use Rattle.gz_label.specs.Items.{max_labels}
 use Rattle.gz_label.specs.Labels.{labels_after}
@@ -50,6 +51,10 @@ changed r registers = labels_after registers r.take r.add
 abbrev pub change_of : Request → List Label → Option (List Label)
 change_of r registers = if nat_le (length (changed r registers)) max_labels then Some (changed r registers) else None
 
+-- a request that expects no offset, whose selector takes any registers, and which leaves them as they are
+abbrev pub plain : Attempt → List ℕ → Request
+plain attempt content = record { attempt = attempt; offset = None; selector = []; take = []; add = []; content = content }
+
 -- nothing lands, and the registers stay
 abbrev pub refused : Landed → List Label → Judged
 refused answer registers = record { landed = answer; after = registers }
@@ -77,6 +82,13 @@ judgement end registers r =
     if not (is_expected r.offset end) then refused (WrongOffset end) registers
     else if not (matches r.selector registers) then refused (mismatch registers) registers
     else changed_at end registers (change_of r registers) r
+
+-- the content stands in the journal
+abbrev pub is_landed : Landed → Bool
+is_landed (landed.Landed begin end) = true
+is_landed (WrongOffset head) = false
+is_landed (RegisterMismatch registers) = false
+is_landed (TooLarge limit) = false
 
 -- where the entry ends that the request adds: only content that lands and isn't empty becomes one
 abbrev pub new_end_of : Landed → Request → Option ℕ

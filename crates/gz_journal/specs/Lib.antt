@@ -1,2 +1,3 @@
 pub mod JournalList
+pub mod Laws
 pub mod Places

@@ -1,10 +1,10 @@
 //! A journal as a list of entries.
 ghost use Rattle.std.specs.Prelude.{◌≡◌, ◌≤◌, ◌++◌, [], ◌+◌, ◌∷◌, length, take, IsTrue, IfOk, OnOk, OnErr};
-ghost use Rattle.gz_journal.specs.JournalList.{end_of, registers_of, part_of, judged_of, appended, new_end_of, entry_of};
+ghost use Rattle.gz_journal.specs.JournalList.{end_of, registers_of, part_of, plain, judged_of, appended, new_end_of, entry_of};
 ghost use Rattle.gz_journal.specs.Places.{entries_of, are_placed};
 
 use crate::{Judged, Landed, Request, judge};
-use gz_label::{Blob, Entry, LabelSet, NoMemory};
+use gz_label::{Attempt, Blob, Entry, LabelSet, NoMemory};
 use std::alloc::Global;
 use std::marker::Model;
 
@@ -143,6 +143,18 @@ impl JournalState {
             return Ok(landed);
         };
         self.push(request, end, after)?;
+        Ok(landed)
+    }
+
+    /// Appends the content at the end, wherever that is, and leaves the registers as they are: it lands, or the journal would
+    /// end above the limit. After NoMemory nothing has changed.
+    pub fn append(&mut self, attempt: Attempt, content: Blob) -> Result<Landed, NoMemory>
+        ensures answer { IfOk result (λ landed. landed ≡ (judged_of self.old (plain attempt content)).landed) }
+        ensures ok { OnOk result (self.new ≡ appended (judged_of self.old (plain attempt content)) (plain attempt content) self.old) }
+        ensures err { OnErr result (self.new ≡ self.old) }
+    {
+        let request = Request::plain(*self.placed.allocator(), attempt, content);
+        let landed = self.land(&request)?;
         Ok(landed)
     }
 

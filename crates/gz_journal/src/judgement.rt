@@ -1,6 +1,6 @@
 //! What becomes of a request to append.
 ghost use Rattle.std.specs.Prelude.{◌≡◌, IfOk};
-ghost use Rattle.gz_journal.specs.JournalList.{is_expected, change_of, refused, mismatch, landed_at, judgement};
+ghost use Rattle.gz_journal.specs.JournalList.{is_expected, is_landed, change_of, refused, mismatch, landed_at, judgement};
 
 use crate::Request;
 use gz_label::{LabelError, LabelSet, NoMemory};
@@ -26,6 +26,18 @@ pub enum Landed {
 pub struct Judged {
     pub landed: Landed,
     pub after: LabelSet,
+}
+
+impl Landed {
+    /// Whether the content stands in the journal.
+    pub fn is_landed(&self) -> bool
+        ensures { result ≡ is_landed self.now }
+    {
+        match self {
+            Landed::Landed { .. } => true,
+            _ => false,
+        }
+    }
 }
 
 fn is_expected(offset: Option<u64>, end: u64) -> bool

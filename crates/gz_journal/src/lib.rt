@@ -3,10 +3,12 @@
 
 mod journal;
 mod judgement;
+mod laws;
 mod request;
 #[cfg(test)]
 mod tests;
 
 pub use journal::JournalState;
 pub use judgement::{Judged, Landed, judge};
+pub use laws::judgements_land;
 pub use request::Request;

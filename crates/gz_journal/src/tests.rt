@@ -113,6 +113,27 @@ fn appends(rt: HostRuntime) -> Result<(), Fail> {
     Ok(())
 }
 
+// What is appended at the end lands there, whatever the registers are, and they stay.
+#[test]
+fn appends_at_the_end(rt: HostRuntime) -> Result<(), Fail> {
+    let alloc = rt.alloc();
+    let mut journal = JournalState::new(alloc);
+    let first = request(alloc, None, b"", b"", b"a=1", b"abc")?;
+    let _first = journal.land(&first)?;
+    for (content, end) in [(b"".as_slice(), 3), (b"de".as_slice(), 5)] {
+        let attempt = Attempt {
+            node: Name::of(alloc, "k1")?,
+            req: 2,
+        };
+        let landed = journal.append(attempt, Blob::of(alloc, content)?)?;
+        assert!(rt; landed.is_landed());
+        assert_eq!(rt; shown(&landed), (b'l', end));
+        assert_eq!(rt; journal.registers().print()?.as_slice(), b"a=1".as_slice());
+    }
+    assert_eq!(rt; journal.read_at(0, 9)?.as_slice(), b"abcde".as_slice());
+    Ok(())
+}
+
 // An end of 2^62 is the greatest.
 #[test]
 fn ends(rt: HostRuntime) -> Result<(), Fail> {

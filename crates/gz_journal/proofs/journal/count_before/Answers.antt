@@ -1,5 +1,4 @@
-use Rattle.std.proofs.Common.{◌≡◌, ◌+◌, ◌-◌, ◌<◌, ◌≤◌, ◌/◌, suc, length, take, sym, ap, ◌∙◌, ℕ, arith, rules}
-use Rattle.std.proofs.lemmas.List.{take-map}
+use Rattle.std.proofs.Common.{◌≡◌, ◌+◌, ◌-◌, ◌<◌, ◌/◌, length, take, sym, ap, ◌∙◌, arith}
 use Rattle.gz_journal.specs.declared.journal.Placed.{Placed}
 use Rattle.gz_journal.specs.JournalList.{end_of}
 use Rattle.gz_journal.specs.Places.{entries_of}

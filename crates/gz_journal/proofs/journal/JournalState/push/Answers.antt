@@ -1,7 +1,7 @@
-use Rattle.std.proofs.Common.{◌≡◌, ◌+◌, true, length, rules}
+use Rattle.std.proofs.Common.{◌≡◌, ◌+◌, length, rules}
 use Rattle.gz_journal.specs.declared.journal.Placed.{Placed}
 use Rattle.gz_journal.specs.JournalList.{end_of, entry_of}
-use Rattle.gz_journal.specs.Places.{entries_of, are_placed}
+use Rattle.gz_journal.specs.Places.{entries_of}
 use Rattle.gz_journal.proofs.Ends.{placed_more}
 use Rattle.gz_journal.proofs.journal.JournalState.push.Goals as goal
 
