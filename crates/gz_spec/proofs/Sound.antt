@@ -218,7 +218,7 @@ next_journal_good path used d j is =
     let good = journal_with_good path n.0 d j (name_good is_journal_name path (codes "name") n.0 d n.1) u.2 in
     (good.0, ap (is_used used) good.1 ∙ unused_good (below path (codes "name")) used n.0 u.0 u.1)
 
-limit_good : (path : List ℕ) (d : Data) (n : ℕ) → number_at 0 1024 path (codes "limit") d ≡ Ok n
+pub limit_good : (path : List ℕ) (d : Data) (n : ℕ) → number_at 0 1024 path (codes "limit") d ≡ Ok n
     → is_between 0 1024 n ≡ true
 limit_good path d n is =
     let s = step (found (below path (codes "limit")) (get (codes "limit") d)) _ n is in
@@ -253,7 +253,7 @@ next_member_good path used d m is =
 
 -- ---- the four lists
 
-journals_good : (d : Data) (js : List JournalSpec) → journals_in d ≡ Ok js → are_journals js ≡ true
+pub journals_good : (d : Data) (js : List JournalSpec) → journals_in d ≡ Ok js → are_journals js ≡ true
 unfolding journals_in
 journals_good d js is =
     let items = step (items_or_none [] (codes "journals") d) _ js is in
@@ -264,7 +264,7 @@ journals_good d js is =
     both (nat_le (length js) 1024) _ (subst P (sym read.many) (few_good 1024 (codes "journals") (count items.0) few.0 few.1))
     (both (list_all is_journal js) (are_fresh name_of_journal [] js) read.all read.fresh)
 
-shards_good : (d : Data) (ss : List ShardSpec) → shards_in d ≡ Ok ss → are_shards ss ≡ true
+pub shards_good : (d : Data) (ss : List ShardSpec) → shards_in d ≡ Ok ss → are_shards ss ≡ true
 unfolding shards_in
 shards_good d ss is =
     let items = step (items_or_none [] (codes "shards") d) _ ss is in

@@ -1,5 +1,5 @@
 -- Specifications that are printed are read back.
-use Rattle.std.proofs.Common.{◌≡◌, ℕ, suc, ◌+◌, ◌≤◌, ◌^◌, List, [], ◌∷◌, ◌++◌, map, length, refl, ap, Bool, true, false, not, nat_le, nat_eq, Result, Ok, Option, Some, None, arith}
+use Rattle.std.proofs.Common.{◌≡◌, ℕ, suc, ◌+◌, ◌≤◌, ◌^◌, List, [], ◌∷◌, ◌++◌, map, length, refl, ap, Bool, true, false, not, nat_le, nat_eq, Result, Ok, Option, Some, None, ◌∙◌, arith}
 use Rattle.std.specs.Prelude.{codes}
 use Rattle.std.specs.List.{list_all}
 use Rattle.std.proofs.lemmas.Bool.{and_parts, not-true}
@@ -27,10 +27,10 @@ use Rattle.gz_spec.specs.Journals.{fragment_in, journal_with, journal_at, next_j
 use Rattle.gz_spec.specs.Shards.{next_source, journal_named, not_empty, sources_at, app_of, outputs_fit, labels_fit, shard_with, shard_at, next_shard, shard_of}
 use Rattle.gz_spec.specs.Members.{member_with, next_member}
 use Rattle.gz_spec.specs.Specs.{name_of_journal, id_of_shard, id_of_member, journals_in, shards_in, members_in, part_in, part_of, whole, specs_of}
-use Rattle.gz_spec.specs.Printed.{fragment_data, journal_data, source_data, shard_data, member_data, specs_data}
+use Rattle.gz_spec.specs.Printed.{fragment_data, journal_data, source_data, shard_data, member_data, specs_data, specs_data_as}
 use Rattle.gz_spec.specs.Valid.{is_between, are_fresh, is_journal, is_source, app_takes, are_shard_labels, are_sources, is_shard, is_member, are_journals, are_shards, are_members, are_specs}
 use Rattle.gz_spec.proofs.LabelsBack.{labels_back}
-use Rattle.gz_spec.proofs.Depths.{journal_nests, shard_nests, specs_nest}
+use Rattle.gz_spec.proofs.Depths.{journal_nests, shard_nests, specs_nest, specs_as_nest}
 
 -- ---- lists
 
@@ -174,7 +174,7 @@ next_member_back path used m good new =
 
 -- ---- the four lists
 
-journals_back : (s : Specs) → are_journals s.journals ≡ true → journals_in (specs_data s) ≡ Ok s.journals
+pub journals_back : (s : Specs) → are_journals s.journals ≡ true → journals_in (specs_data s) ≡ Ok s.journals
 unfolding journals_in
 journals_back s good =
     let a = and_parts (nat_le (length s.journals) 1024) _ good in
@@ -182,7 +182,7 @@ journals_back s good =
     rw (count_of journal_data s.journals, few_back 1024 (codes "journals") (length s.journals) a.0)
     (each_back next_journal name_of_journal journal_data is_journal next_journal_back s.journals (codes "journals") 0 [] b.0 b.1)
 
-shards_back : (s : Specs) → are_shards s.shards ≡ true → shards_in (specs_data s) ≡ Ok s.shards
+pub shards_back : (s : Specs) → are_shards s.shards ≡ true → shards_in (specs_data s) ≡ Ok s.shards
 unfolding shards_in
 shards_back s good =
     let a = and_parts (nat_le (length s.shards) 256) _ good in
@@ -223,3 +223,25 @@ part_back s d text is reads good =
 pub specs_back : (s : Specs) (d : Data) (text : List ℕ) → d ≡ specs_data s → (depth d ≤ max_depth → json_of text ≡ Some d) → are_specs s ≡ true → specs_of text ≡ whole s
 unfolding specs_of
 specs_back s d text is reads good = rw (part_back s d text is reads good) refl
+
+-- ---- the four lists, and the event that says them
+
+part_same : (event : List ℕ) (s : Specs) → part_in (specs_data_as event s) ≡ part_in (specs_data s)
+unfolding part_in journals_in shards_in members_in specs_data_as
+part_same event s = refl
+
+part_as_back : (event : List ℕ) (s : Specs) (text : List ℕ) → json_of text ≡ Some (specs_data_as event s)
+    → are_specs s ≡ true → part_of text ≡ Ok s
+unfolding part_of
+part_as_back event s text says good = rw says (part_same event s ∙ part_in_back s good)
+
+pub says_as : (event : List ℕ) (s : Specs) (d : Data) (text : List ℕ) → d ≡ specs_data_as event s
+    → (depth d ≤ max_depth → json_of text ≡ Some d) → json_of text ≡ Some (specs_data_as event s)
+says_as event s d text is reads =
+    let deep : depth d ≤ max_depth = rw is (specs_as_nest event s) in
+    reads deep ∙ ap Some is
+
+pub specs_as_back : (event : List ℕ) (s : Specs) (d : Data) (text : List ℕ) → d ≡ specs_data_as event s
+    → (depth d ≤ max_depth → json_of text ≡ Some d) → are_specs s ≡ true → specs_of text ≡ whole s
+unfolding specs_of
+specs_as_back event s d text is reads good = rw (part_as_back event s text (says_as event s d text is reads) good) refl

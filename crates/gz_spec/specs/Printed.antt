@@ -75,12 +75,19 @@ member_data m =
 
 -- ---- the four lists
 
-abbrev pub specs_data : Specs → Data
-specs_data s =
-    object (member (codes "brokers") (list_data (map member_data s.brokers))
+abbrev pub four_lists : Specs → Members
+four_lists s =
+    member (codes "brokers") (list_data (map member_data s.brokers))
     (member (codes "consumers") (list_data (map member_data s.consumers))
     (member (codes "journals") (list_data (map journal_data s.journals))
-    (member (codes "shards") (list_data (map shard_data s.shards)) no_members))))
+    (member (codes "shards") (list_data (map shard_data s.shards)) no_members)))
+
+abbrev pub specs_data : Specs → Data
+specs_data s = object (four_lists s)
+
+-- the four lists, and the event that says them
+unfoldable pub specs_data_as : List ℕ → Specs → Data
+specs_data_as event s = object (put (codes "do") (string event) (four_lists s))
 
 -- ---- as text
 

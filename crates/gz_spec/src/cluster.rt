@@ -232,8 +232,9 @@ fn read_each_journal(alloc: Global, path: &Blob, values: &[Value]) -> Result<Jou
     Ok(Journals { journals })
 }
 
+/// The journals of the object's member `journals`, and none where it is absent.
 #[tactic(auto, unfolding(crate::specs::Specs::journals_in))]
-fn read_journals(alloc: Global, value: &Value) -> Result<Journals, SpecError>
+pub fn read_journals(alloc: Global, value: &Value) -> Result<Journals, SpecError>
     ensures { Gives (λ js. js) result (journals_in (view value.now)) }
 {
     let values = read_items_or_none(alloc, &Blob::new(alloc), value, "journals")?;
@@ -256,8 +257,10 @@ fn read_each_shard(alloc: Global, path: &Blob, values: &[Value]) -> Result<Shard
     Ok(Shards { shards })
 }
 
+/// The shards of the object's member `shards`, and none where it is absent. Whether the journals that they
+/// name are there isn't asked.
 #[tactic(auto, unfolding(crate::specs::Specs::shards_in))]
-fn read_shards(alloc: Global, value: &Value) -> Result<Shards, SpecError>
+pub fn read_shards(alloc: Global, value: &Value) -> Result<Shards, SpecError>
     ensures { Gives (λ ss. ss) result (shards_in (view value.now)) }
 {
     let values = read_items_or_none(alloc, &Blob::new(alloc), value, "shards")?;

@@ -75,8 +75,9 @@ pub fn read_next_member(
     Ok(member)
 }
 
+/// The member that the value at this place is, by itself: a reserved id is taken.
 #[tactic(auto, unfolding(crate::specs::Members::member_at))]
-fn read_member_at(alloc: Global, path: &Blob, value: &Value) -> Result<MemberSpec, SpecError>
+pub fn read_member_at(alloc: Global, path: &Blob, value: &Value) -> Result<MemberSpec, SpecError>
     ensures { Gives (λ m. m) result (member_at path.now (view value.now)) }
 {
     refuse_unknown(alloc, path, value, &["id", "zone", "limit"])?;

@@ -1,8 +1,10 @@
 //! Specifications as JSON with every member.
-ghost use Rattle.std.specs.Prelude.{◌≡◌, IfOk, OnOk, Ok, IsTrue, map};
+ghost use Rattle.std.specs.Prelude.{◌≡◌, IfOk, OnOk, Ok, Some, IsTrue, map};
 ghost use Rattle.serde_json.specs.Data.{string, put};
 ghost use Rattle.serde_json.specs.View.{view, members_view};
-ghost use Rattle.gz_spec.specs.Printed.{values_in_front, with_first, label_members, labels_data, fragment_data, journal_data, source_data, shard_data, member_data, specs_data, journal_text, shard_text, specs_text};
+ghost use Rattle.serde_json.specs.Written.{compact_text};
+ghost use Rattle.gz_json.specs.Json.{json_of};
+ghost use Rattle.gz_spec.specs.Printed.{values_in_front, with_first, label_members, labels_data, fragment_data, journal_data, source_data, shard_data, member_data, four_lists, specs_data, specs_data_as, journal_text, shard_text, specs_text};
 ghost use Rattle.gz_spec.specs.Valid.{is_journal, is_shard, are_specs};
 ghost use Rattle.gz_spec.specs.Journals.{journal_of};
 ghost use Rattle.gz_spec.specs.Shards.{shard_of};
@@ -163,7 +165,8 @@ fn shard_value(alloc: Global, shard: &ShardSpec) -> Result<Value, NoMemory>
     Ok(Value::from(members))
 }
 
-fn member_value(alloc: Global, member: &MemberSpec) -> Result<Value, NoMemory>
+/// The member as JSON.
+pub fn member_value(alloc: Global, member: &MemberSpec) -> Result<Value, NoMemory>
     ensures { IfOk result (λ value. view value ≡ member_data member.now) }
 {
     let id = text_value(alloc, &member.id)?;
@@ -175,7 +178,8 @@ fn member_value(alloc: Global, member: &MemberSpec) -> Result<Value, NoMemory>
     Ok(Value::from(members))
 }
 
-fn journal_values(alloc: Global, journals: &[JournalSpec]) -> Result<Vec<Value>, NoMemory>
+/// Each journal as JSON, with every member.
+pub fn journal_values(alloc: Global, journals: &[JournalSpec]) -> Result<Vec<Value>, NoMemory>
     ensures { IfOk result (λ values. map view values.items ≡ map journal_data journals.now) }
 {
     let mut values = Vec::new(alloc);
@@ -186,7 +190,8 @@ fn journal_values(alloc: Global, journals: &[JournalSpec]) -> Result<Vec<Value>,
     Ok(values)
 }
 
-fn shard_values(alloc: Global, shards: &[ShardSpec]) -> Result<Vec<Value>, NoMemory>
+/// Each shard as JSON, with every member.
+pub fn shard_values(alloc: Global, shards: &[ShardSpec]) -> Result<Vec<Value>, NoMemory>
     ensures { IfOk result (λ values. map view values.items ≡ map shard_data shards.now) }
 {
     let mut values = Vec::new(alloc);
@@ -208,8 +213,9 @@ fn member_values(alloc: Global, members: &[MemberSpec]) -> Result<Vec<Value>, No
     Ok(values)
 }
 
-fn specs_value(alloc: Global, specs: &Specs) -> Result<Value, NoMemory>
-    ensures { IfOk result (λ value. view value ≡ specs_data specs.now) }
+/// The four lists, each by its name.
+fn four_lists(alloc: Global, specs: &Specs) -> Result<Map<String, Value>, NoMemory>
+    ensures { IfOk result (λ members. members_view members.entries ≡ four_lists specs.now) }
 {
     let brokers = member_values(alloc, specs.brokers.as_slice())?;
     let consumers = member_values(alloc, specs.consumers.as_slice())?;
@@ -220,6 +226,23 @@ fn specs_value(alloc: Global, specs: &Specs) -> Result<Value, NoMemory>
     put(alloc, &mut members, "consumers", Value::Array(consumers))?;
     put(alloc, &mut members, "journals", Value::Array(journals))?;
     put(alloc, &mut members, "shards", Value::Array(shards))?;
+    Ok(members)
+}
+
+fn specs_value(alloc: Global, specs: &Specs) -> Result<Value, NoMemory>
+    ensures { IfOk result (λ value. view value ≡ specs_data specs.now) }
+{
+    let members = four_lists(alloc, specs)?;
+    Ok(Value::from(members))
+}
+
+#[tactic(auto, unfolding(crate::specs::Printed::specs_data_as))]
+fn specs_value_as(alloc: Global, event: &str, specs: &Specs) -> Result<Value, NoMemory>
+    ensures { IfOk result (λ value. view value ≡ specs_data_as event.now specs.now) }
+{
+    let mut members = four_lists(alloc, specs)?;
+    let event = Value::try_from_str(alloc, event)?;
+    put(alloc, &mut members, "do", event)?;
     Ok(Value::from(members))
 }
 
@@ -256,6 +279,19 @@ pub fn print_specs(alloc: Global, specs: &Specs) -> Result<Blob, NoMemory>
     ensures judged { IfOk result (λ text. IsTrue (are_specs specs.now) → specs_of text ≡ whole specs.now) }
 {
     let value = specs_value(alloc, specs)?;
+    let text = gz_json::print(alloc, &value)?;
+    Ok(text)
+}
+
+/// The four lists as compact JSON with every member, and beside them a member `do` that says this event. What
+/// reads specifications passes over that member: it reads and judges the text as what `print_specs` writes.
+#[tactic(auto, using(crate::proofs::Datas::specs_as_no_float))]
+pub fn print_specs_as(alloc: Global, event: &str, specs: &Specs) -> Result<Blob, NoMemory>
+    ensures text { IfOk result (λ text. text ≡ compact_text (specs_data_as event.now specs.now)) }
+    ensures value { IfOk result (λ text. json_of text ≡ Some (specs_data_as event.now specs.now)) }
+    ensures judged { IfOk result (λ text. IsTrue (are_specs specs.now) → specs_of text ≡ whole specs.now) }
+{
+    let value = specs_value_as(alloc, event, specs)?;
     let text = gz_json::print(alloc, &value)?;
     Ok(text)
 }
