@@ -6,6 +6,8 @@ mod part;
 mod parts;
 mod point;
 mod sequencer;
+#[cfg(test)]
+mod tests;
 
 pub use laws::{
     checkpoint_stays, front_commits_front, given_is_committed, released_is_committed,
