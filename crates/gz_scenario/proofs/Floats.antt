@@ -1,13 +1,19 @@
--- What is printed nests three deep at most, and has no float.
-use Rattle.std.proofs.Common.{◌≡◌, ◌≤◌, ℕ, suc, max, List, [], ◌∷◌, map, refl, false, arith}
+-- What is printed doesn't nest too deep, and has no float.
+use Rattle.std.proofs.Common.{◌≡◌, ◌≤◌, ℕ, suc, max, List, [], ◌∷◌, map, refl, false, arith, lit≤}
+use Rattle.std.proofs.Math.Nat.{max-le}
 use Rattle.std.proofs.lemmas.Grind.{common_steps}
 use Rattle.serde_json.specs.Data.{depth, items_depth}
 use Rattle.serde_json.specs.View.{items_of}
 use Rattle.serde_json.specs.Read.{max_depth}
 use Rattle.serde_json.specs.Written.{has_float, items_have_float}
-use Rattle.gz_scenario.specs.Printed.{draft_data, publish_data, settle_data}
+use Rattle.gz_spec.specs.Printed.{journal_data, shard_data}
+use Rattle.gz_spec.specs.declared.cluster.Specs.{Specs}
+use Rattle.gz_spec.proofs.Datas.{list_float, journal_float, shard_float}
+use Rattle.gz_spec.proofs.Depths.{list_deep, one_up, wider, journal_deep, shard_deep}
+use Rattle.gz_scenario.specs.Printed.{draft_data, publish_data, settle_data, apply_data, join_data, expire_data}
 use Rattle.gz_scenario.specs.declared.event.Draft.{Draft}
 use Rattle.gz_scenario.specs.declared.event.Publish.{Publish}
+use Rattle.gz_scenario.specs.declared.event.Join.{Join}
 
 draft_no_float : (m : Draft) → has_float (draft_data m) ≡ false
 unfolding draft_data
@@ -46,3 +52,30 @@ publish_depth p = below_max (items_depth (items_of (map draft_data p.messages)))
 pub settle_depth : depth settle_data ≤ max_depth
 unfolding settle_data
 settle_depth = omega arith
+
+pub apply_no_float : (part : Specs) → has_float (apply_data part) ≡ false
+unfolding apply_data
+apply_no_float part = rw (list_float journal_data journal_float part.journals, list_float shard_data shard_float part.shards) refl
+
+pub apply_depth : (part : Specs) → depth (apply_data part) ≤ max_depth
+unfolding apply_data
+apply_depth part =
+    wider _ 5 127
+    (one_up _ 4 (max-le (lit≤ tt) (max-le (one_up _ 3 (list_deep 3 journal_data journal_deep part.journals))
+    (max-le (one_up _ 3 (list_deep 3 shard_data shard_deep part.shards)) (lit≤ tt))))) (lit≤ tt)
+
+pub join_no_float : (j : Join) → has_float (join_data j) ≡ false
+unfolding join_data
+join_no_float j = refl
+
+pub join_depth : (j : Join) → depth (join_data j) ≤ max_depth
+unfolding join_data
+join_depth j = lit≤ tt
+
+pub expire_no_float : (id : List ℕ) → has_float (expire_data id) ≡ false
+unfolding expire_data
+expire_no_float id = refl
+
+pub expire_depth : (id : List ℕ) → depth (expire_data id) ≤ max_depth
+unfolding expire_data
+expire_depth id = lit≤ tt

@@ -1,3 +1,7 @@
 pub mod Floats
+pub mod Joiners
 pub mod Again
+pub mod NotEmpty
+pub mod Strings
+pub mod Texts
 pub mod Accepted

@@ -8,7 +8,9 @@ use Rattle.gz_json.specs.Json.{json_of}
 use Rattle.gz_spec.specs.Names.{is_id, is_journal_name}
 use Rattle.gz_spec.specs.Paths.{below, at_place}
 use Rattle.gz_spec.specs.Form.{found, has_only, text_at, name_at, number_at, number_or, items_at}
-use Rattle.gz_spec.specs.Specs.{specs_of}
+use Rattle.gz_spec.specs.Members.{member_at}
+use Rattle.gz_spec.specs.Specs.{journals_in, shards_in, specs_of}
+use Rattle.gz_spec.specs.declared.cluster.Specs.{Specs}
 use Rattle.gz_spec.specs.declared.error.SpecError.{SpecError}
 use Rattle.gz_spec.specs.declared.error.SpecError.TheVariants as spec
 use Rattle.gz_scenario.specs.Refusals.{on_line}
@@ -18,6 +20,9 @@ use Rattle.gz_scenario.specs.declared.event.Flag.{Flag}
 use Rattle.gz_scenario.specs.declared.event.Flag.TheVariants.{Outside, Continue, Ack}
 use Rattle.gz_scenario.specs.declared.event.Draft.{Draft}
 use Rattle.gz_scenario.specs.declared.event.Publish.{Publish}
+use Rattle.gz_scenario.specs.declared.event.MemberKind.{MemberKind}
+use Rattle.gz_scenario.specs.declared.event.MemberKind.TheVariants.{Broker, Consumer}
+use Rattle.gz_scenario.specs.declared.event.Join.{Join}
 use Rattle.gz_scenario.specs.declared.event.Event.{Event}
 use Rattle.gz_scenario.specs.declared.event.Event.TheVariants as event
 
@@ -104,13 +109,65 @@ settle_in d = do
   _ ← has_only [] (codes "do" ∷ []) d
   Ok event.Settle
 
+-- ---- apply
+
+abbrev pub apply_members : List (List ℕ)
+apply_members = codes "do" ∷ codes "journals" ∷ codes "shards" ∷ []
+
+-- Journals and shards, each list by itself: whether the journals that the shards name are there isn't asked.
+unfoldable pub apply_in : Data → Result Specs SpecError
+apply_in d = do
+  _ ← has_only [] apply_members d
+  journals ← journals_in d
+  shards ← shards_in d
+  Ok (record { journals = journals; shards = shards; brokers = []; consumers = [] })
+
+-- ---- join
+
+abbrev pub join_members : List (List ℕ)
+join_members = codes "do" ∷ codes "broker" ∷ codes "consumer" ∷ []
+
+-- one member, where no other stands beside it
+abbrev pub joining : MemberKind → List ℕ → Data → Result Join SpecError
+joining kind name d = do
+  m ← member_at name d
+  Ok (record { kind = kind; member = m })
+
+-- Just one of the two is there. Where both are, the consumer is a bad field, and with neither the broker is.
+abbrev pub one_joining : Option Data → Option Data → Result Join SpecError
+one_joining None None = Err (spec.BadField (codes "broker"))
+one_joining None (Some c) = joining Consumer (codes "consumer") c
+one_joining (Some b) None = joining Broker (codes "broker") b
+one_joining (Some b) (Some c) = joining Broker (codes "broker") b >>= λ j. Err (spec.BadField (codes "consumer"))
+
+-- a broker or a consumer
+unfoldable pub join_in : Data → Result Join SpecError
+join_in d = do
+  _ ← has_only [] join_members d
+  one_joining (get (codes "broker") d) (get (codes "consumer") d)
+
+-- ---- expire
+
+-- a member's id, which may be a reserved one
+unfoldable pub expire_in : Data → Result (List ℕ) SpecError
+expire_in d = do
+  _ ← has_only [] (codes "do" ∷ codes "member" ∷ []) d
+  name_at is_id [] (codes "member") d
+
 -- ---- lines
+
+-- the events that change what is there, by what they say to do
+abbrev pub change_event : ℕ → List ℕ → Data → Result Event ScenarioError
+change_event number verb d =
+    if bytes_eq verb (codes "apply") then on_line number event.Apply (apply_in d)
+    else (if bytes_eq verb (codes "join") then on_line number event.Join (join_in d)
+    else (if bytes_eq verb (codes "expire") then on_line number event.Expire (expire_in d) else Err (error.Unknown number)))
 
 -- the events of later lines, by what they say to do
 abbrev pub later_event : ℕ → List ℕ → Data → Result Event ScenarioError
 later_event number verb d =
     if bytes_eq verb (codes "publish") then on_line number event.Publish (publish_in d)
-    else (if bytes_eq verb (codes "settle") then on_line number (λ e. e) (settle_in d) else Err (error.Unknown number))
+    else (if bytes_eq verb (codes "settle") then on_line number (λ e. e) (settle_in d) else change_event number verb d)
 
 -- the first line has the specifications, and no later line has
 abbrev pub event_named : ℕ → List ℕ → List ℕ → Data → Result Event ScenarioError

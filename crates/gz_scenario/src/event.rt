@@ -3,7 +3,7 @@ ghost use Rattle.std.specs.Prelude.{◌≡◌};
 
 use crate::Text;
 use gz_label::Name;
-use gz_spec::Specs;
+use gz_spec::{MemberSpec, Specs};
 use std::marker::Model;
 
 /// What part of a transaction a message is.
@@ -78,6 +78,22 @@ pub struct Publish {
     pub producer: u64,
 }
 
+/// What a member of the cluster is.
+#[derive(Clone, Copy, Debug, PartialEq, Eq)]
+pub enum MemberKind {
+    /// It serves journals.
+    Broker,
+    /// It runs shards.
+    Consumer,
+}
+
+/// A member that joins the cluster. Its id may be a reserved one.
+#[derive(Debug, Drop)]
+pub struct Join {
+    pub kind: MemberKind,
+    pub member: MemberSpec,
+}
+
 /// What happens next.
 #[derive(Debug, Drop)]
 pub enum Event {
@@ -87,4 +103,11 @@ pub enum Event {
     Publish(Publish),
     /// Everything that is due happens.
     Settle,
+    /// These journals and shards are added, each in the place of the one of its name where there is one. The
+    /// lists of members are empty.
+    Apply(Specs),
+    /// A member joins.
+    Join(Join),
+    /// The lease of the member of this id ends.
+    Expire(Name),
 }

@@ -1,6 +1,7 @@
 //! Scenarios: each line is an event, and the first one has the specifications that it begins with.
 #![tactic(auto)]
 
+mod change;
 mod error;
 mod event;
 mod print;
@@ -9,8 +10,8 @@ mod read;
 mod text;
 
 pub use error::ScenarioError;
-pub use event::{Draft, Drafts, Event, Flag, Publish};
-pub use print::{print_publish, print_settle};
+pub use event::{Draft, Drafts, Event, Flag, Join, MemberKind, Publish};
+pub use print::{print_apply, print_event, print_expire, print_join, print_publish, print_settle};
 pub use read::read_event;
 pub use text::Text;
 

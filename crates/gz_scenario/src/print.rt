@@ -1,13 +1,17 @@
 //! Events as JSON.
-ghost use Rattle.std.specs.Prelude.{◌≡◌, ◌≤◌, IfOk, IsTrue, Ok, length, map};
+ghost use Rattle.std.specs.Prelude.{◌≡◌, IfOk, IsTrue, codes, map};
+ghost use Rattle.serde_json.specs.Data.{object, string, member, no_members, put};
 ghost use Rattle.serde_json.specs.View.{view, items_view, items_of};
 ghost use Rattle.serde_json.specs.Written.{compact_text};
-ghost use Rattle.gz_scenario.specs.Printed.{flag_text, draft_data, publish_data, settle_data, IsLaterLine};
-ghost use Rattle.gz_scenario.specs.Lawful.{is_publish};
+ghost use Rattle.gz_spec.specs.Printed.{member_data, specs_data_as};
+ghost use Rattle.gz_scenario.specs.Printed.{flag_text, draft_data, publish_data, settle_data, apply_data, join_data, expire_data, event_data, IsLine};
+ghost use Rattle.gz_scenario.specs.Lawful.{is_start, is_publish, is_apply, is_joiner, is_event};
+ghost use Rattle.gz_spec.specs.Names.{is_id};
 ghost use Rattle.gz_scenario.specs.declared.event.Event.TheVariants as event;
 
-use crate::{Draft, Flag, Publish};
-use gz_label::{Blob, NoMemory};
+use crate::{Draft, Event, Flag, Join, MemberKind, Publish};
+use gz_label::{Blob, Name, NoMemory};
+use gz_spec::{MemberSpec, Specs, journal_values, member_value, print_specs_as, shard_values};
 use serde_json::{Map, Value};
 use std::alloc::Global;
 
@@ -85,7 +89,7 @@ fn value_of_publish(alloc: Global, publish: &Publish) -> Result<Value, NoMemory>
 #[tactic(auto, using(crate::proofs::Floats::publish_no_float, crate::proofs::Again::publish_line))]
 pub fn print_publish(alloc: Global, publish: &Publish) -> Result<Blob, NoMemory>
     ensures text { IfOk result (λ line. line ≡ compact_text (publish_data publish.now)) }
-    ensures reads_back { IfOk result (λ line. IsTrue (is_publish publish.now) → IsLaterLine (event.Publish publish.now) line) }
+    ensures reads_back { IfOk result (λ line. IsTrue (is_publish publish.now) → IsLine (event.Publish publish.now) line) }
 {
     let value = value_of_publish(alloc, publish)?;
     let line = gz_json::print(alloc, &value)?;
@@ -108,9 +112,130 @@ fn value_of_settle(alloc: Global) -> Result<Value, NoMemory>
 #[tactic(auto, using(crate::proofs::Floats::settle_no_float, crate::proofs::Floats::settle_depth, crate::proofs::Again::settle_line))]
 pub fn print_settle(alloc: Global) -> Result<Blob, NoMemory>
     ensures text { IfOk result (λ line. line ≡ compact_text settle_data) }
-    ensures reads_back { IfOk result (λ line. IsLaterLine event.Settle line) }
+    ensures reads_back { IfOk result (λ line. IsLine event.Settle line) }
 {
     let value = value_of_settle(alloc)?;
     let line = gz_json::print(alloc, &value)?;
     Ok(line)
+}
+
+#[tactic(auto, unfolding(crate::specs::Printed::apply_data))]
+fn value_of_apply(alloc: Global, part: &Specs) -> Result<Value, NoMemory>
+    ensures { IfOk result (λ value. view value ≡ apply_data part.now) }
+{
+    let journals = journal_values(alloc, part.journals.as_slice())?;
+    let shards = shard_values(alloc, part.shards.as_slice())?;
+    let mut members = Map::new(alloc);
+    members.insert(
+        String::from_str(alloc, "do")?,
+        Value::try_from_str(alloc, "apply")?,
+    )?;
+    members.insert(String::from_str(alloc, "journals")?, Value::Array(journals))?;
+    members.insert(String::from_str(alloc, "shards")?, Value::Array(shards))?;
+    Ok(Value::from(members))
+}
+
+/// The line of an apply, without its newline: its journals and shards with every member. Members of the cluster are
+/// left out, since an apply has none. Where it is an apply as `read_event` gives them, and short enough, it is read
+/// back as the same.
+#[tactic(auto, using(crate::proofs::Floats::apply_no_float, crate::proofs::Again::apply_line))]
+pub fn print_apply(alloc: Global, part: &Specs) -> Result<Blob, NoMemory>
+    ensures text { IfOk result (λ line. line ≡ compact_text (apply_data part.now)) }
+    ensures reads_back { IfOk result (λ line. IsTrue (is_apply part.now) → IsLine (event.Apply part.now) line) }
+{
+    let value = value_of_apply(alloc, part)?;
+    let line = gz_json::print(alloc, &value)?;
+    Ok(line)
+}
+
+/// A join of this member, as what is named so.
+fn value_of_joining(alloc: Global, kind: &str, joiner: &MemberSpec) -> Result<Value, NoMemory>
+    ensures { IfOk result (λ value. view value ≡ object (put (codes "do") (string (codes "join")) (member kind.now (member_data joiner.now) no_members))) }
+{
+    let joiner = member_value(alloc, joiner)?;
+    let mut members = Map::new(alloc);
+    members.insert(String::from_str(alloc, kind)?, joiner)?;
+    members.insert(
+        String::from_str(alloc, "do")?,
+        Value::try_from_str(alloc, "join")?,
+    )?;
+    Ok(Value::from(members))
+}
+
+#[tactic(auto, unfolding(crate::specs::Printed::join_data), using(crate::proofs::Joiners::broker_first, crate::proofs::Joiners::consumer_first))]
+fn value_of_join(alloc: Global, join: &Join) -> Result<Value, NoMemory>
+    ensures { IfOk result (λ value. view value ≡ join_data join.now) }
+{
+    match join.kind {
+        MemberKind::Broker => value_of_joining(alloc, "broker", &join.member),
+        MemberKind::Consumer => value_of_joining(alloc, "consumer", &join.member),
+    }
+}
+
+/// The line of a join, without its newline. Where it is a join as `read_event` gives them, and short enough, it is
+/// read back as the same.
+#[tactic(auto, using(crate::proofs::Floats::join_no_float, crate::proofs::Again::join_line))]
+pub fn print_join(alloc: Global, join: &Join) -> Result<Blob, NoMemory>
+    ensures text { IfOk result (λ line. line ≡ compact_text (join_data join.now)) }
+    ensures reads_back { IfOk result (λ line. IsTrue (is_joiner join.now.member) → IsLine (event.Join join.now) line) }
+{
+    let value = value_of_join(alloc, join)?;
+    let line = gz_json::print(alloc, &value)?;
+    Ok(line)
+}
+
+#[tactic(auto, unfolding(crate::specs::Printed::expire_data))]
+fn value_of_expire(alloc: Global, id: &Name) -> Result<Value, NoMemory>
+    ensures { IfOk result (λ value. view value ≡ expire_data id.now) }
+{
+    let mut members = Map::new(alloc);
+    members.insert(
+        String::from_str(alloc, "do")?,
+        Value::try_from_str(alloc, "expire")?,
+    )?;
+    members.insert(
+        String::from_str(alloc, "member")?,
+        Value::try_from_str(alloc, id.as_str())?,
+    )?;
+    Ok(Value::from(members))
+}
+
+/// The line of an expire, without its newline. Where the id is one by its form, and the line short enough, it is
+/// read back as the same.
+#[tactic(auto, using(crate::proofs::Floats::expire_no_float, crate::proofs::Again::expire_line))]
+pub fn print_expire(alloc: Global, id: &Name) -> Result<Blob, NoMemory>
+    ensures text { IfOk result (λ line. line ≡ compact_text (expire_data id.now)) }
+    ensures reads_back { IfOk result (λ line. IsTrue (is_id id.now) → IsLine (event.Expire id.now) line) }
+{
+    let value = value_of_expire(alloc, id)?;
+    let line = gz_json::print(alloc, &value)?;
+    Ok(line)
+}
+
+/// The line of the specifications that a scenario begins with, without its newline.
+#[tactic(auto, using(crate::proofs::Again::start_line))]
+fn print_start(alloc: Global, specs: &Specs) -> Result<Blob, NoMemory>
+    ensures text { IfOk result (λ line. line ≡ compact_text (specs_data_as (codes "specs") specs.now)) }
+    ensures reads_back { IfOk result (λ line. IsTrue (is_start specs.now) → IsLine (event.Specs specs.now) line) }
+{
+    let line = print_specs_as(alloc, "specs", specs)?;
+    Ok(line)
+}
+
+/// The line of an event, without its newline: compact JSON with the members in the order of their names, `do`
+/// among them. Where it is an event as `read_event` gives them, it is read back as the same: specifications on
+/// the first line, any other event on each later line. A line of more than 4,194,304 bytes, and one past the
+/// 65,536th, is refused when it is read.
+pub fn print_event(alloc: Global, event: &Event) -> Result<Blob, NoMemory>
+    ensures text { IfOk result (λ line. line ≡ compact_text (event_data event.now)) }
+    ensures reads_back { IfOk result (λ line. IsTrue (is_event event.now) → IsLine event.now line) }
+{
+    match event {
+        Event::Specs(specs) => print_start(alloc, specs),
+        Event::Publish(publish) => print_publish(alloc, publish),
+        Event::Settle => print_settle(alloc),
+        Event::Apply(part) => print_apply(alloc, part),
+        Event::Join(join) => print_join(alloc, join),
+        Event::Expire(id) => print_expire(alloc, id),
+    }
 }

@@ -1,10 +1,8 @@
 //! Publishes as JSON.
-ghost use Rattle.std.specs.Prelude.{◌≡◌, ◌≤◌, IfOk, IsTrue, length};
-ghost use Rattle.std.specs.List.{list_all};
+ghost use Rattle.std.specs.Prelude.{◌≡◌};
 ghost use Rattle.serde_json.specs.View.{view, items_view};
 ghost use Rattle.gz_spec.specs.Outcomes.{Gives};
 ghost use Rattle.gz_scenario.specs.Events.{flag_at, short_or_none, draft_in, drafts_from, some_drafts, publish_in};
-ghost use Rattle.gz_scenario.specs.Lawful.{is_draft, is_publish};
 
 use crate::{Draft, Drafts, Flag, Publish, Text};
 use gz_label::Blob;
@@ -62,8 +60,7 @@ fn read_short_or_none(
     name: &str,
     most: usize,
 ) -> Result<Text, SpecError>
-    ensures gives { Gives (λ text. text) result (short_or_none most path.now name.now (view value.now)) }
-    ensures short { IfOk result (λ text. length text ≤ most) }
+    ensures { Gives (λ text. text) result (short_or_none most path.now name.now (view value.now)) }
 {
     let Some(member) = value.get(name) else {
         let none = Text::of(alloc, "")?;
@@ -82,8 +79,7 @@ fn read_short_or_none(
 
 #[tactic(auto, unfolding(crate::specs::Events::draft_in))]
 fn read_draft(alloc: Global, path: &Blob, value: &Value) -> Result<Draft, SpecError>
-    ensures gives { Gives (λ m. m) result (draft_in path.now (view value.now)) }
-    ensures lawful { IfOk result (λ m. IsTrue (is_draft m)) }
+    ensures { Gives (λ m. m) result (draft_in path.now (view value.now)) }
 {
     refuse_unknown(alloc, path, value, &["flag", "clock", "key", "value"])?;
     let flag = read_flag(alloc, path, value)?;
@@ -99,9 +95,7 @@ fn read_draft(alloc: Global, path: &Blob, value: &Value) -> Result<Draft, SpecEr
 }
 
 fn read_each_draft(alloc: Global, path: &Blob, values: &[Value]) -> Result<Drafts, SpecError>
-    ensures gives { Gives (λ ms. ms) result (drafts_from path.now 0 (items_view values.now)) }
-    ensures lawful { IfOk result (λ ms. IsTrue (list_all is_draft ms)) }
-    ensures count { IfOk result (λ ms. length ms ≡ length values.now) }
+    ensures { Gives (λ ms. ms) result (drafts_from path.now 0 (items_view values.now)) }
 {
     let mut drafts = Vec::new(alloc);
     for (i, value) in values.iter().enumerate() {
@@ -113,9 +107,7 @@ fn read_each_draft(alloc: Global, path: &Blob, values: &[Value]) -> Result<Draft
 }
 
 fn read_drafts(alloc: Global, path: &Blob, values: &[Value]) -> Result<Drafts, SpecError>
-    ensures gives { Gives (λ ms. ms) result (some_drafts path.now (items_view values.now)) }
-    ensures lawful { IfOk result (λ ms. IsTrue (list_all is_draft ms)) }
-    ensures some { IfOk result (λ ms. 1 ≤ length ms) }
+    ensures { Gives (λ ms. ms) result (some_drafts path.now (items_view values.now)) }
 {
     if values.is_empty() {
         return Err(SpecError::BadNumber { path: path.copy()? });
@@ -125,10 +117,9 @@ fn read_drafts(alloc: Global, path: &Blob, values: &[Value]) -> Result<Drafts, S
 }
 
 /// The publish that the value is.
-#[tactic(auto, unfolding(crate::specs::Events::publish_in, crate::specs::Lawful::is_publish), using(crate::proofs::Accepted::name_good, crate::proofs::Accepted::default_good))]
+#[tactic(auto, unfolding(crate::specs::Events::publish_in))]
 pub fn read_publish(alloc: Global, value: &Value) -> Result<Publish, SpecError>
-    ensures gives { Gives (λ p. p) result (publish_in (view value.now)) }
-    ensures lawful { IfOk result (λ p. IsTrue (is_publish p)) }
+    ensures { Gives (λ p. p) result (publish_in (view value.now)) }
 {
     let top = Blob::new(alloc);
     refuse_unknown(

@@ -4,9 +4,10 @@ ghost use Rattle.serde_json.specs.View.{view};
 ghost use Rattle.gz_spec.specs.Outcomes.{Gives as GivesSpec};
 ghost use Rattle.gz_scenario.specs.Outcomes.{Gives};
 ghost use Rattle.gz_scenario.specs.Refusals.{on_line};
-ghost use Rattle.gz_scenario.specs.Events.{settle_in, later_event, event_named, event_in, event_of};
+ghost use Rattle.gz_scenario.specs.Events.{settle_in, change_event, later_event, event_named, event_in, event_of};
 ghost use Rattle.gz_scenario.specs.Lawful.{is_event};
 
+use crate::change::{read_apply, read_expire, read_join};
 use crate::error::bad_field;
 use crate::publish::read_publish;
 use crate::{Event, ScenarioError};
@@ -23,17 +24,45 @@ const MAX_LINE: usize = 4_194_304;
 
 #[tactic(auto, unfolding(crate::specs::Events::settle_in))]
 fn read_settle(alloc: Global, value: &Value) -> Result<Event, SpecError>
-    ensures gives { GivesSpec (λ e. e) result (settle_in (view value.now)) }
-    ensures lawful { IfOk result (λ e. IsTrue (is_event e)) }
+    ensures { GivesSpec (λ e. e) result (settle_in (view value.now)) }
 {
     refuse_unknown(alloc, &Blob::new(alloc), value, &["do"])?;
     Ok(Event::Settle)
 }
 
+/// The event that changes what is there, by what it says to do.
+fn read_change(
+    alloc: Global,
+    number: u64,
+    verb: &str,
+    value: &Value,
+) -> Result<Event, ScenarioError>
+    ensures { Gives (λ e. e) result (change_event number verb.now (view value.now)) }
+{
+    if verb == "apply" {
+        return match read_apply(alloc, value) {
+            Ok(part) => Ok(Event::Apply(part)),
+            Err(e) => Err(bad_field(number, e)),
+        };
+    }
+    if verb == "join" {
+        return match read_join(alloc, value) {
+            Ok(join) => Ok(Event::Join(join)),
+            Err(e) => Err(bad_field(number, e)),
+        };
+    }
+    if verb == "expire" {
+        return match read_expire(alloc, value) {
+            Ok(id) => Ok(Event::Expire(id)),
+            Err(e) => Err(bad_field(number, e)),
+        };
+    }
+    Err(ScenarioError::Unknown { line: number })
+}
+
 /// The event of a later line, by what it says to do.
 fn read_later(alloc: Global, number: u64, verb: &str, value: &Value) -> Result<Event, ScenarioError>
-    ensures gives { Gives (λ e. e) result (later_event number verb.now (view value.now)) }
-    ensures lawful { IfOk result (λ e. IsTrue (is_event e)) }
+    ensures { Gives (λ e. e) result (later_event number verb.now (view value.now)) }
 {
     if verb == "publish" {
         return match read_publish(alloc, value) {
@@ -47,13 +76,13 @@ fn read_later(alloc: Global, number: u64, verb: &str, value: &Value) -> Result<E
             Err(e) => Err(bad_field(number, e)),
         };
     }
-    Err(ScenarioError::Unknown { line: number })
+    let event = read_change(alloc, number, verb, value)?;
+    Ok(event)
 }
 
 /// The specifications that the first line says.
 fn read_first(alloc: Global, verb: &str, line: &[u8], value: &Value) -> Result<Event, ScenarioError>
-    ensures gives { Gives (λ e. e) result (event_named 1 line.now verb.now (view value.now)) }
-    ensures lawful { IfOk result (λ e. IsTrue (is_event e)) }
+    ensures { Gives (λ e. e) result (event_named 1 line.now verb.now (view value.now)) }
 {
     if verb != "specs" {
         return Err(ScenarioError::Unknown { line: 1 });
@@ -70,8 +99,7 @@ fn read_value(
     line: &[u8],
     value: &Value,
 ) -> Result<Event, ScenarioError>
-    ensures gives { Gives (λ e. e) result (event_in number line.now (Some (view value.now))) }
-    ensures lawful { IfOk result (λ e. IsTrue (is_event e)) }
+    ensures { Gives (λ e. e) result (event_in number line.now (Some (view value.now))) }
 {
     let Some(verb) = value.get("do").and_then(Value::as_str) else {
         return Err(ScenarioError::Unknown { line: number });
@@ -84,16 +112,9 @@ fn read_value(
     Ok(event)
 }
 
-/// The event that the line of this number says, counted from 1: specifications on the first line, and any
-/// other event on a later one. The line may end in a newline. The error is the first that holds: Limit
-/// past 65,536 lines or 4,194,304 bytes, NotJson, Unknown where the line says no such event, and BadField
-/// with the path of its first offender: an unknown member in name order, else the members in the order
-/// `client`, `journal`, `messages`, `producer`, and of a message `flag`, `clock`, `key`, `value`. Time goes
-/// with the bytes of the line.
 #[tactic(auto, unfolding(crate::specs::Events::event_of))]
-pub fn read_event(alloc: Global, number: u64, line: &[u8]) -> Result<Event, ScenarioError>
-    ensures gives { Gives (λ e. e) result (event_of number line.now) }
-    ensures lawful { IfOk result (λ e. IsTrue (is_event e)) }
+fn read_line(alloc: Global, number: u64, line: &[u8]) -> Result<Event, ScenarioError>
+    ensures { Gives (λ e. e) result (event_of number line.now) }
 {
     if number > MAX_LINES || line.len() > MAX_LINE {
         return Err(ScenarioError::Limit { line: number });
@@ -102,5 +123,21 @@ pub fn read_event(alloc: Global, number: u64, line: &[u8]) -> Result<Event, Scen
         return Err(ScenarioError::NotJson { line: number });
     };
     let event = read_value(alloc, number, line, &value)?;
+    Ok(event)
+}
+
+/// The event that the line of this number says, counted from 1: specifications on the first line, and any
+/// other event on a later one. The line may end in a newline. The error is the first that holds: Limit
+/// past 65,536 lines or 4,194,304 bytes, NotJson, Unknown where the line says no such event, and BadField
+/// with the path of its first offender: an unknown member in name order, else the members in the order
+/// `client`, `journal`, `messages`, `producer`, and of a message `flag`, `clock`, `key`, `value`; `journals`,
+/// `shards`; `broker`, `consumer`, just one of which has to be there, and of either `id`, `zone`, `limit`;
+/// `member`. Time goes with the bytes of the line.
+#[tactic(auto, using(crate::proofs::Accepted::event_good))]
+pub fn read_event(alloc: Global, number: u64, line: &[u8]) -> Result<Event, ScenarioError>
+    ensures gives { Gives (λ e. e) result (event_of number line.now) }
+    ensures lawful { IfOk result (λ e. IsTrue (is_event e)) }
+{
+    let event = read_line(alloc, number, line)?;
     Ok(event)
 }

@@ -1,5 +1,5 @@
 //! Lines that say events, and lines that miss one by a thing each.
-use crate::{Event, Flag, print_publish, print_settle, read_event};
+use crate::{Event, Flag, print_event, print_publish, print_settle, read_event};
 use gz_label::Blob;
 use std::alloc::Global;
 use std::test::Fail;
@@ -253,6 +253,12 @@ fn by_line(rt: HostRuntime) -> Result<(), Fail> {
         (2, "{\"do\":\"specs\"}", "line 2: unknown event"),
         (1, "{\"do\":\"settle\"}", "line 1: unknown event"),
         (1, PUBLISH, "line 1: unknown event"),
+        (1, "{\"do\":\"apply\"}", "line 1: unknown event"),
+        (
+            1,
+            "{\"do\":\"expire\",\"member\":1}",
+            "line 1: unknown event",
+        ),
         (1, "{\"do\":\"specs\"", "line 1: not JSON"),
         (1, "[]", "line 1: unknown event"),
         (3, "\"settle\"", "line 3: unknown event"),
@@ -281,6 +287,195 @@ fn by_line(rt: HostRuntime) -> Result<(), Fail> {
     }
     let text = refused(alloc, 4, b"\"\xff\"")?;
     assert_eq!(rt; text.as_slice(), b"line 4: not JSON".as_slice());
+    Ok(())
+}
+
+// What an apply has to be. Whether the journals that its shards name are there is judged later.
+#[test]
+fn applies(rt: HostRuntime) -> Result<(), Fail> {
+    let alloc = rt.alloc();
+    for (line, want) in [
+        ("{\"do\":\"apply\"}", ""),
+        (
+            "{\"do\":\"apply\",\"shards\":[],\"journals\":[{\"name\":\"j\"}]}",
+            "",
+        ),
+        (
+            "{\"do\":\"apply\",\"shards\":[{\"id\":\"s\",\"sources\":[{\"journal\":\"none\"}],\"recovery_log_prefix\":\"r\",\"labels\":{\"app\":[\"latest\"]}}]}",
+            "",
+        ),
+        (
+            "{\"do\":\"apply\",\"brokers\":[]}",
+            "line 2: bad field brokers",
+        ),
+        (
+            "{\"do\":\"apply\",\"consumers\":[],\"journals\":1,\"brokers\":[]}",
+            "line 2: bad field brokers",
+        ),
+        (
+            "{\"do\":\"apply\",\"consumers\":[]}",
+            "line 2: bad field consumers",
+        ),
+        (
+            "{\"do\":\"apply\",\"journals\":[],\"a\":1,\"brokers\":[]}",
+            "line 2: bad field a",
+        ),
+        (
+            "{\"do\":\"apply\",\"journals\":{}}",
+            "line 2: bad field journals",
+        ),
+        (
+            "{\"do\":\"apply\",\"shards\":null,\"journals\":null}",
+            "line 2: bad field journals",
+        ),
+        (
+            "{\"do\":\"apply\",\"shards\":\"s\"}",
+            "line 2: bad field shards",
+        ),
+        (
+            "{\"do\":\"apply\",\"shards\":[{}],\"journals\":[{\"name\":\"j\"},{\"name\":\"j\"}]}",
+            "line 2: bad field journals[1].name",
+        ),
+        (
+            "{\"do\":\"apply\",\"shards\":[{\"id\":\"s\",\"sources\":[{\"journal\":\"none\"}],\"recovery_log_prefix\":\"r\",\"labels\":{\"app\":[\"latest\"]}},{\"id\":\"s\",\"sources\":[{\"journal\":\"none\"}],\"recovery_log_prefix\":\"r\",\"labels\":{\"app\":[\"latest\"]}}]}",
+            "line 2: bad field shards[1].id",
+        ),
+        (
+            "{\"do\":\"apply\",\"shards\":[{\"id\":\"s\"}]}",
+            "line 2: bad field shards[0].sources",
+        ),
+    ] {
+        let text = refused(alloc, 2, line.as_bytes())?;
+        assert_eq!(rt; text.as_slice(), want.as_bytes(), "at {line}");
+    }
+    Ok(())
+}
+
+#[test]
+fn joins(rt: HostRuntime) -> Result<(), Fail> {
+    let alloc = rt.alloc();
+    for (line, want) in [
+        (
+            "{\"do\":\"join\",\"broker\":{\"id\":\"b\",\"zone\":\"z\",\"limit\":0}}",
+            "",
+        ),
+        (
+            "{\"do\":\"join\",\"consumer\":{\"id\":\"c\",\"zone\":\"z\",\"limit\":1024}}",
+            "",
+        ),
+        (
+            "{\"do\":\"join\",\"broker\":{\"id\":\"client7\",\"zone\":\"z\",\"limit\":1}}",
+            "",
+        ),
+        ("{\"do\":\"join\"}", "line 2: bad field broker"),
+        ("{\"do\":\"join\",\"member\":1}", "line 2: bad field member"),
+        (
+            "{\"do\":\"join\",\"consumer\":1,\"broker\":1,\"a\":1}",
+            "line 2: bad field a",
+        ),
+        ("{\"do\":\"join\",\"broker\":1}", "line 2: bad field broker"),
+        (
+            "{\"do\":\"join\",\"consumer\":null}",
+            "line 2: bad field consumer",
+        ),
+        (
+            "{\"do\":\"join\",\"broker\":{\"zone\":\"z\",\"limit\":1}}",
+            "line 2: bad field broker.id",
+        ),
+        (
+            "{\"do\":\"join\",\"broker\":{\"id\":\"b\",\"zone\":\"\",\"limit\":1}}",
+            "line 2: bad field broker.zone",
+        ),
+        (
+            "{\"do\":\"join\",\"broker\":{\"id\":1,\"zone\":\"z\",\"limit\":1,\"x\":2}}",
+            "line 2: bad field broker.x",
+        ),
+        (
+            "{\"do\":\"join\",\"consumer\":{\"id\":\"c\",\"zone\":\"z\"}}",
+            "line 2: bad field consumer.limit",
+        ),
+        (
+            "{\"do\":\"join\",\"consumer\":{\"id\":\"c\",\"zone\":\"z\",\"limit\":1025}}",
+            "line 2: bad field consumer.limit",
+        ),
+    ] {
+        let text = refused(alloc, 2, line.as_bytes())?;
+        assert_eq!(rt; text.as_slice(), want.as_bytes(), "at {line}");
+    }
+    Ok(())
+}
+
+// Of two members the broker is judged first, and then the consumer is one too many.
+#[test]
+fn joins_of_two(rt: HostRuntime) -> Result<(), Fail> {
+    let alloc = rt.alloc();
+    for (line, want) in [
+        (
+            "{\"do\":\"join\",\"broker\":{\"id\":\"b\",\"zone\":\"z\",\"limit\":1},\"consumer\":{\"id\":\"c\",\"zone\":\"z\",\"limit\":1}}",
+            "line 2: bad field consumer",
+        ),
+        (
+            "{\"do\":\"join\",\"consumer\":{\"id\":\"c\",\"zone\":\"z\",\"limit\":1},\"broker\":{\"id\":\"b\",\"zone\":\"z\",\"limit\":1}}",
+            "line 2: bad field consumer",
+        ),
+        (
+            "{\"do\":\"join\",\"consumer\":{\"id\":\"c\",\"zone\":\"z\",\"limit\":1},\"broker\":{\"id\":\"b\",\"zone\":\"z\",\"limit\":1025}}",
+            "line 2: bad field broker.limit",
+        ),
+        (
+            "{\"do\":\"join\",\"consumer\":{\"id\":1},\"broker\":{\"id\":\"b\",\"zone\":\"z\",\"limit\":1}}",
+            "line 2: bad field consumer",
+        ),
+        (
+            "{\"do\":\"join\",\"consumer\":{\"id\":1},\"broker\":{\"id\":2}}",
+            "line 2: bad field broker.id",
+        ),
+        (
+            "{\"do\":\"join\",\"consumer\":null,\"broker\":null}",
+            "line 2: bad field broker",
+        ),
+    ] {
+        let text = refused(alloc, 2, line.as_bytes())?;
+        assert_eq!(rt; text.as_slice(), want.as_bytes(), "at {line}");
+    }
+    Ok(())
+}
+
+#[test]
+fn expires(rt: HostRuntime) -> Result<(), Fail> {
+    let alloc = rt.alloc();
+    for (line, want) in [
+        ("{\"do\":\"expire\",\"member\":\"c1\"}", ""),
+        ("{\"do\":\"expire\",\"member\":\"store\"}", ""),
+        (
+            "{\"do\":\"expire\",\"member\":\"abcdefghijabcdefghijabcdefghijab\"}",
+            "",
+        ),
+        (
+            "{\"do\":\"expire\",\"member\":\"abcdefghijabcdefghijabcdefghijabc\"}",
+            "line 2: bad field member",
+        ),
+        ("{\"do\":\"expire\"}", "line 2: bad field member"),
+        (
+            "{\"do\":\"expire\",\"member\":1}",
+            "line 2: bad field member",
+        ),
+        (
+            "{\"do\":\"expire\",\"member\":\"\"}",
+            "line 2: bad field member",
+        ),
+        (
+            "{\"do\":\"expire\",\"member\":\"c/1\"}",
+            "line 2: bad field member",
+        ),
+        (
+            "{\"do\":\"expire\",\"member\":\"c 1\",\"id\":\"c1\"}",
+            "line 2: bad field id",
+        ),
+    ] {
+        let text = refused(alloc, 2, line.as_bytes())?;
+        assert_eq!(rt; text.as_slice(), want.as_bytes(), "at {line}");
+    }
     Ok(())
 }
 
@@ -334,5 +529,51 @@ fn printed(rt: HostRuntime) -> Result<(), Fail> {
     assert_eq!(rt; settle.as_slice(), b"{\"do\":\"settle\"}".as_slice());
     let text = refused(alloc, 2, settle.as_slice())?;
     assert_eq!(rt; text.as_slice(), b"".as_slice());
+    Ok(())
+}
+
+#[test]
+fn printed_events(rt: HostRuntime) -> Result<(), Fail> {
+    let alloc = rt.alloc();
+    for (number, line, want) in [
+        (
+            1,
+            "{\"shards\":[],\"do\":\"specs\"}",
+            "{\"brokers\":[],\"consumers\":[],\"do\":\"specs\",\"journals\":[],\"shards\":[]}",
+        ),
+        (2, PUBLISH, PRINTED),
+        (3, "{ \"do\": \"settle\" }", "{\"do\":\"settle\"}"),
+        (
+            2,
+            "{\"do\":\"apply\"}",
+            "{\"do\":\"apply\",\"journals\":[],\"shards\":[]}",
+        ),
+        (
+            2,
+            "{\"do\":\"apply\",\"shards\":[{\"id\":\"s\",\"sources\":[{\"journal\":\"none\"}],\"recovery_log_prefix\":\"r\",\"labels\":{\"app\":[\"latest\"]}}],\"journals\":[{\"name\":\"j\"}]}",
+            "{\"do\":\"apply\",\"journals\":[{\"fragment\":{\"compression_codec\":\"NONE\",\"length\":67108864},\"labels\":{},\"name\":\"j\",\"replication\":1}],\"shards\":[{\"disable\":false,\"hint_backups\":0,\"hint_prefix\":\"hint\",\"hot_standbys\":0,\"id\":\"s\",\"labels\":{\"app\":[\"latest\"]},\"recovery_log_prefix\":\"r\",\"sources\":[{\"journal\":\"none\",\"min_offset\":0}]}]}",
+        ),
+        (
+            3,
+            "{\"do\":\"join\",\"broker\":{\"id\":\"store\",\"zone\":\"z\",\"limit\":7}}",
+            "{\"broker\":{\"id\":\"store\",\"limit\":7,\"zone\":\"z\"},\"do\":\"join\"}",
+        ),
+        (
+            4,
+            "{\"do\":\"join\",\"consumer\":{\"id\":\"c\",\"zone\":\"z\",\"limit\":0}}",
+            "{\"consumer\":{\"id\":\"c\",\"limit\":0,\"zone\":\"z\"},\"do\":\"join\"}",
+        ),
+        (
+            5,
+            "{\"member\":\"c\",\"do\":\"expire\"}",
+            "{\"do\":\"expire\",\"member\":\"c\"}",
+        ),
+    ] {
+        let Ok(event) = read_event(alloc, number, line.as_bytes()) else {
+            return Err(Fail::from("no event"));
+        };
+        let text = print_event(alloc, &event)?;
+        assert_eq!(rt; text.as_slice(), want.as_bytes(), "of line {number}");
+    }
     Ok(())
 }

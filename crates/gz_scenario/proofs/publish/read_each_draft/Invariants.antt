@@ -1,14 +1,9 @@
-use Rattle.std.proofs.Common.{◌≡◌, drop, length}
-use Rattle.std.specs.Prelude.{IsTrue}
-use Rattle.std.specs.List.{list_all}
+use Rattle.std.proofs.Common.{◌≡◌, drop}
 use Rattle.serde_json.specs.View.{items_view}
 use Rattle.gz_spec.specs.Behind.{behind}
 use Rattle.gz_scenario.specs.Events.{drafts_from}
-use Rattle.gz_scenario.specs.Lawful.{is_draft}
 use Rattle.gz_scenario.proofs.publish.read_each_draft.Given as goal
 
 abbrev pub invariant-loop-i : goal.invariant-loop-i
 invariant-loop-i l =
-    (behind l.drafts.items (drafts_from l.path l.i (items_view (drop l.i l.values))) ≡ drafts_from l.path 0 (items_view l.values))
-    × IsTrue (list_all is_draft l.drafts.items)
-    × (length l.drafts.items ≡ l.i)
+    behind l.drafts.items (drafts_from l.path l.i (items_view (drop l.i l.values))) ≡ drafts_from l.path 0 (items_view l.values)
