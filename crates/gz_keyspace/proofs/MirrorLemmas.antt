@@ -30,7 +30,7 @@ at_revision changes revision all =
     let e : revision ≡ 0 + revision = omega arith in
     ap keys_after (ap (λ m. filter (λ change. nat_le change.revision m) changes) e ∙ up_to changes 0 revision all)
 
-revision_at : (changes : List Change) (n place : ℕ) (c : Change) → IsNumberedFrom n changes → slice_get changes place ≡ Some c → c.revision ≡ n + place + 1
+pub revision_at : (changes : List Change) (n place : ℕ) (c : Change) → IsNumberedFrom n changes → slice_get changes place ≡ Some c → c.revision ≡ n + place + 1
 revision_at [] n place c all here = absurd (true≢false (sym (ap is_some here)))
 revision_at (x ∷ xs) n zero c all here =
     let same : x ≡ c = ap (λ (o : Option Change). unwrap_or o x) here in
@@ -40,7 +40,7 @@ revision_at (x ∷ xs) n (suc place) c all here =
     let is : c.revision ≡ n + 1 + place + 1 = revision_at xs (n + 1) place c all.1 here in
     omega (arith, is)
 
-take_more : (xs : List Change) (place : ℕ) (x : Change) → slice_get xs place ≡ Some x → take (suc place) xs ≡ take place xs ++ x ∷ []
+pub take_more : (xs : List Change) (place : ℕ) (x : Change) → slice_get xs place ≡ Some x → take (suc place) xs ≡ take place xs ++ x ∷ []
 take_more [] place x here = absurd (true≢false (sym (ap is_some here)))
 take_more (y ∷ ys) zero x here = ap (λ (z : Change). z ∷ []) (ap (λ (o : Option Change). unwrap_or o y) here)
 take_more (y ∷ ys) (suc place) x here = ap (λ rest. y ∷ rest) (take_more ys place x here)
@@ -69,13 +69,13 @@ given_all changes (c ∷ cs) m all mirror among =
     given_all changes cs (applied c m) all
     (applied_one changes m among.0.0 c (c.revision == m.revision + 1) refl all among.0.1 mirror) among.1
 
-front_of : (xs ys : List Change) (n : ℕ) → n ≤ length xs → take n (xs ++ ys) ≡ take n xs
+pub front_of : (xs ys : List Change) (n : ℕ) → n ≤ length xs → take n (xs ++ ys) ≡ take n xs
 front_of [] ys zero within = refl
 front_of [] ys (suc n) within = absurd (omega (arith, within))
 front_of (x ∷ xs) ys zero within = refl
 front_of (x ∷ xs) ys (suc n) within = ap (λ rest. x ∷ rest) (front_of xs ys n (omega (arith, within)))
 
-all_taken : (xs : List Change) → take (length xs) xs ≡ xs
+pub all_taken : (xs : List Change) → take (length xs) xs ≡ xs
 all_taken [] = refl
 all_taken (x ∷ xs) = ap (λ rest. x ∷ rest) (all_taken xs)
 

@@ -2,7 +2,7 @@
 ghost use Rattle.std.specs.Prelude.{◌≡◌, ◌≤◌, ◌<◌, ◌^◌, [], ◌∷◌, List, ℕ, IfOk, OnOk, OnErr, option_map, filter, nat_lt, drop, ◌++◌, None};
 ghost use Rattle.std.specs.Map.{lookup};
 ghost use Rattle.indexmap.specs.IndexMap.{get as got, spare, IsUnchanged};
-ghost use Rattle.gz_keyspace.specs.Keys.{same_key, keys_after, held_at, mod_revision_of};
+ghost use Rattle.gz_keyspace.specs.Keys.{same_key, keys_after, held_at, mod_revision_of, IsNumbered};
 ghost use Rattle.gz_keyspace.specs.Table.{prepared_of, puts};
 ghost use Rattle.gz_keyspace.specs.Space.{Space, revision_of, next_revision, with_change, without_written, compared, key_of_lease, txn_answer, after_txn, grant_answer, after_grant, expire_answer, after_expire};
 ghost use Rattle.gz_keyspace.specs.Outcomes.{Gives};
@@ -205,7 +205,8 @@ impl KeySpace {
 
     /// The changes of the revisions above this one, in order. It costs no more than those.
     pub fn since(&self, after: u64) -> Result<Changes, NoMemory>
-        ensures { IfOk result (λ changes. changes ≡ filter (λ change. nat_lt after change.revision) self.now.changes) }
+        ensures value { IfOk result (λ changes. changes ≡ filter (λ change. nat_lt after change.revision) self.now.changes) }
+        ensures numbered { IsNumbered self.now.changes }
     {
         let later = behind(self.tables.changes.as_slice(), after);
         let changes = Changes::of(*self.tables.changes.allocator(), later)?;

@@ -12,7 +12,7 @@ mod table;
 mod tests;
 
 pub use error::KeyError;
-pub use formats::read_sync;
+pub use formats::{Ids, Joined, print_joined, read_ids, read_joined, read_sync};
 pub use keyspace::KeySpace;
 pub use laws::mirrors_agree;
 pub use mirror::Mirror;

@@ -1,6 +1,6 @@
 // Each answer of the calls, once.
 
-use crate::{KeyError, KeySpace, Mirror, read_sync};
+use crate::{KeyError, KeySpace, Mirror, read_ids, read_joined, read_sync};
 use gz_label::{Blob, Compare, KeyWrite, Name};
 use std::test::Fail;
 
@@ -91,6 +91,48 @@ fn epochs(rt: HostRuntime) -> Result<(), Fail> {
         (b"18446744073709551616".as_slice(), None),
     ] {
         assert_eq!(rt; read_sync(text), number);
+    }
+    Ok(())
+}
+
+// Each text, and how many ids it lists.
+#[test]
+fn lists_of_ids(rt: HostRuntime) -> Result<(), Fail> {
+    let alloc = rt.alloc();
+    for (text, count) in [
+        (b"".as_slice(), Some(0)),
+        (b"b1,c_2".as_slice(), Some(2)),
+        (b"b1,".as_slice(), None),
+        (b"b1,b1".as_slice(), None),
+    ] {
+        let ids = read_ids(alloc, text)?;
+        let found = match &ids {
+            Some(ids) => Some(ids.as_slice().len()),
+            None => None,
+        };
+        assert_eq!(rt; found, count);
+    }
+    Ok(())
+}
+
+// Each value of a member's key, and its limit where it is a consumer's.
+#[test]
+fn members(rt: HostRuntime) -> Result<(), Fail> {
+    let alloc = rt.alloc();
+    let id = Name::of(alloc, "m1")?;
+    for (value, limit) in [
+        (b"consumer z1 1024".as_slice(), Some(1024)),
+        (b"consumer z1 1025".as_slice(), None),
+        (b"consumer z1 04".as_slice(), None),
+        (b"consumer z1 4 ".as_slice(), None),
+        (b"broker z1 4".as_slice(), None),
+    ] {
+        let joined = read_joined(alloc, &id, value)?;
+        let found = match &joined {
+            Some(joined) if joined.consumer => Some(joined.spec.limit),
+            _ => None,
+        };
+        assert_eq!(rt; found, limit);
     }
     Ok(())
 }

@@ -1,0 +1,8 @@
+pub mod Followed
+pub mod Begun
+pub mod Elsewhere
+pub mod Forms
+pub mod Members
+pub mod Orders
+pub mod Spaces
+pub mod Starts

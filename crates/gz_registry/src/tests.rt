@@ -1,0 +1,111 @@
+// Each answer of the calls, once, and what mirrors show.
+
+use crate::{Registry, RegistryError};
+use gz_keyspace::{Joined, Mirror};
+use gz_label::Name;
+use gz_spec::{MemberSpec, read_part};
+use std::alloc::Global;
+use std::test::Fail;
+
+// A journal, and a consumer that is before its broker in the order of ids.
+const START: &str =
+    "{\"journals\":[{\"name\":\"b\"}],\"brokers\":[{\"id\":\"m2\",\"zone\":\"z\",\"limit\":4}],\"consumers\":[{\"id\":\"m1\",\"zone\":\"z\",\"limit\":2}]}";
+
+// Another journal, and the first one as it was.
+const MORE: &str = "{\"journals\":[{\"name\":\"c\"},{\"name\":\"b\"}]}";
+
+fn begun(alloc: Global) -> Result<Registry, Fail> {
+    let specs = read_part(alloc, START.as_bytes())?;
+    let registry = Registry::start(alloc, &specs)?;
+    Ok(registry)
+}
+
+// A broker of this id.
+fn broker(alloc: Global, id: &[u8]) -> Result<Joined, Fail> {
+    let id = Name::read(alloc, id)?;
+    let zone = Name::of(alloc, "z")?;
+    Ok(Joined {
+        consumer: false,
+        spec: MemberSpec { id, zone, limit: 1 },
+    })
+}
+
+// Whether the mirror shows what the registry's key space has at the key.
+fn is_same(registry: &Registry, mirror: &Mirror, key: &Name) -> bool {
+    match (registry.get(key), mirror.get(key)) {
+        (None, None) => true,
+        (Some((_, here)), Some((_, there))) => here == there,
+        _ => false,
+    }
+}
+
+// Whether the member's mirror shows what the registry's key space has.
+fn shows(alloc: Global, registry: &Registry, id: &Name) -> Result<bool, Fail> {
+    let Some(mirror) = registry.mirror(id) else {
+        return Ok(false);
+    };
+    let mut same = mirror.revision() == registry.revision();
+    for key in ["journal/b", "journal/c", "member/m1", "member/m2"] {
+        same = same && is_same(registry, mirror, &Name::of(alloc, key)?);
+    }
+    Ok(same)
+}
+
+#[test]
+fn starts(rt: HostRuntime) -> Result<(), Fail> {
+    let alloc = rt.alloc();
+    let registry = begun(alloc)?;
+    assert_eq!(rt; registry.revision(), 3);
+    for (key, want) in [("journal/b", 1), ("member/m2", 2), ("member/m1", 3)] {
+        let found = match registry.get(&Name::of(alloc, key)?) {
+            None => 0,
+            Some((_, revision)) => revision,
+        };
+        assert_eq!(rt; found, want);
+    }
+    assert!(rt; shows(alloc, &registry, &Name::of(alloc, "m1")?)?);
+    Ok(())
+}
+
+#[test]
+fn puts(rt: HostRuntime) -> Result<(), Fail> {
+    let alloc = rt.alloc();
+    let mut registry = begun(alloc)?;
+    let part = read_part(alloc, MORE.as_bytes())?;
+    assert_eq!(rt; registry.put(&part)?, 4);
+    assert!(rt; shows(alloc, &registry, &Name::of(alloc, "m2")?)?);
+    Ok(())
+}
+
+#[test]
+fn expires(rt: HostRuntime) -> Result<(), Fail> {
+    let alloc = rt.alloc();
+    let mut registry = begun(alloc)?;
+    let id = Name::of(alloc, "m1")?;
+    assert_eq!(rt; registry.expire(&id)?, 4);
+    assert!(rt; registry.was_member(&id));
+    assert!(rt; shows(alloc, &registry, &id)?);
+    let again = registry.expire(&id);
+    assert!(rt; matches!(&again, Err(RegistryError::NoMember)));
+    Ok(())
+}
+
+// Two start, and 62 more may join.
+#[test]
+fn joins(rt: HostRuntime) -> Result<(), Fail> {
+    let alloc = rt.alloc();
+    let mut registry = begun(alloc)?;
+    for number in 0..63u8 {
+        let joined = broker(alloc, &[b'n', b'0' + number / 10, b'0' + number % 10])?;
+        if joined.is_valid() && !registry.was_member(&joined.spec.id) {
+            let answer = registry.join(&joined);
+            assert_eq!(rt;
+                matches!(&answer, Err(RegistryError::MembersFull)),
+                number == 62
+            );
+        }
+    }
+    assert_eq!(rt; registry.revision(), 65);
+    assert!(rt; shows(alloc, &registry, &Name::of(alloc, "n00")?)?);
+    Ok(())
+}
