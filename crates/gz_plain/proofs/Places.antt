@@ -1,5 +1,5 @@
 -- Journals by their places, and the texts that a commit puts behind them.
-use Rattle.std.proofs.Common.{◌≡◌, ℕ, zero, suc, ◌+◌, ◌<◌, ◌≤◌, ◌==◌, List, [], ◌∷◌, ◌++◌, length, map, get_or, set, drop, replicate, refl, ap, sym, ◌∙◌, append_assoc, Bool, true, false, cond, arith}
+use Rattle.std.proofs.Common.{◌≡◌, ℕ, zero, suc, ◌+◌, ◌<◌, ◌≤◌, ◌==◌, List, [], ◌∷◌, ◌++◌, length, map, get_or, set, drop, replicate, refl, ap, sym, ◌∙◌, append_assoc, Bool, true, false, cond, ◌||◌, arith}
 use Rattle.std.proofs.lemmas.Bool.{eqb-true, eqb-false}
 use Rattle.std.proofs.lemmas.List.{append-nil, drop_more, drop_all, length-map, length-replicate}
 use Rattle.std.proofs.lemmas.List.Elements.{filter-append}
@@ -9,11 +9,11 @@ use Rattle.std.specs.Str.{bytes_eq}
 use Rattle.gz_frame.specs.Line.{line_of}
 use Rattle.gz_frame.specs.Messages.{Message, continue_txn}
 use Rattle.gz_app.specs.Applications.{Output}
-use Rattle.gz_plain.specs.Journals.{Journal, text_of, appended, place_of, text_at, appended_at}
+use Rattle.gz_plain.specs.Journals.{Journal, is_journal, text_of, appended, place_of, text_at, appended_at}
 use Rattle.gz_plain.specs.Order.{Apart}
 use Rattle.gz_plain.specs.Places.{names_of, places_of, ArePlaced, with_lines, ended, all_appended}
 use Rattle.gz_plain.specs.Plain.{lines_from}
-use Rattle.gz_plain.specs.Runs.{Distinct, all_empty}
+use Rattle.gz_plain.specs.Runs.{ArePresent, Distinct, all_empty}
 use Rattle.gz_plain.specs.Seen.{name_of}
 use Rattle.gz_plain.specs.Shards.{choice, lines_to, closed, text_of_lines, written_to}
 use Rattle.gz_plain.specs.declared.writer.Writer.{Writer}
@@ -105,6 +105,24 @@ names_empty (n ∷ names) = ap (λ (rest : List (List ℕ)). n ∷ rest) (names_
 pub place_stays : (name bytes other : List ℕ) (js : List Journal) → place_of other (appended name bytes js) ≡ place_of other js
 place_stays name bytes other [] = refl
 place_stays name bytes other (j ∷ js) = rw (name_first bytes j (bytes_eq j.name name), place_stays name bytes other js) refl
+
+-- a journal is one whose name is among the names
+abbrev is_among : List ℕ → List (List ℕ) → Bool
+is_among name [] = false
+is_among name (n ∷ names) = bytes_eq n name || is_among name names
+
+journal_among : (name : List ℕ) (js : List Journal) → is_journal name js ≡ is_among name (names_of js)
+journal_among name [] = refl
+journal_among name (j ∷ js) = ap (λ (b : Bool). bytes_eq j.name name || b) (journal_among name js)
+
+-- where the names stay, each journal is still there
+pub journal_stays : (name : List ℕ) (js new : List Journal) → names_of new ≡ names_of js → is_journal name new ≡ is_journal name js
+journal_stays name js new names =
+    journal_among name new ∙ ap (λ (ns : List (List ℕ)). is_among name ns) names ∙ sym (journal_among name js)
+
+pub present_stays : (names : List (List ℕ)) (js new : List Journal) → ((name : List ℕ) → is_journal name new ≡ is_journal name js) → ArePresent names js → ArePresent names new
+present_stays [] js new same present = tt
+present_stays (n ∷ names) js new same present = (same n ∙ present.0, present_stays names js new same present.1)
 
 -- each is still named once
 pub distinct_stay : (name bytes : List ℕ) (js : List Journal) → Distinct (names_of js) → Distinct (names_of (appended name bytes js))

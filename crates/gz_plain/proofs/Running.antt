@@ -33,7 +33,7 @@ part_by : (from to : ℕ) (rs : List Release) → AllEndBy from rs → part from
 part_by from to [] e = refl
 part_by from to (r ∷ rs) e = rw (test_by from to r.end e.0) (part_by from to rs e.1)
 
-ends_within : (low high : ℕ) (rs : List Release) → Within low high rs → AllEndBy high rs
+pub ends_within : (low high : ℕ) (rs : List Release) → Within low high rs → AllEndBy high rs
 ends_within low high [] w = tt
 ends_within low high (r ∷ rs) w = (w.0.1, ends_within low high rs w.1)
 

@@ -12,7 +12,8 @@ use Rattle.gz_plain.specs.Order.{Wiring, wiring_of, wirings_of, IsBeside, IsBefo
 use Rattle.gz_plain.proofs.Writes.{others_stay}
 use Rattle.gz_plain.proofs.Takes.{parts_none, last_is_more, reads_each}
 use Rattle.gz_plain.proofs.Steps.{Kept}
-use Rattle.gz_plain.proofs.Rounds.{AllKept, IsSound, sound_settled}
+use Rattle.gz_plain.proofs.Rounds.{if_kept, AllKept, IsSound, sound_settled}
+use Rattle.gz_plain.proofs.Stays.{wired}
 
 -- ---- sources whose texts stay
 
@@ -121,28 +122,12 @@ quiet_unless js s false test apart = quiet_if js (untaken js s) s refl apart
 quiet_after : (js : List Journal) (s : Shard) → IsBeside s.outputs s.sources → IsQuiet (stepped js s).journals (stepped js s).shard
 quiet_after js s apart = quiet_unless js s s.is_disabled refl apart
 
-wired_room : (js : List Journal) (ms : List Message) (s : Shard) (room : Bool) → wiring_of (cond room (commit js ms s) (record { journals = js; shard = s })).shard ≡ wiring_of s
-wired_room js ms s true = refl
-wired_room js ms s false = refl
-
-wired_if : (js : List Journal) (ms : List Message) (s : Shard) → wiring_of (commit_if js ms s).shard ≡ wiring_of s
-wired_if js [] s = refl
-wired_if js (m ∷ ms) s = wired_room js (m ∷ ms) s (has_room (m ∷ ms) s)
-
-wired_unless : (js : List Journal) (s : Shard) (disabled : Bool) → wiring_of (cond disabled (record { journals = js; shard = s }) (commit_if js (untaken js s) s)).shard ≡ wiring_of s
-wired_unless js s true = refl
-wired_unless js s false = wired_if js (untaken js s) s
-
--- a step leaves the wiring
-pub wired : (js : List Journal) (s : Shard) → wiring_of (stepped js s).shard ≡ wiring_of s
-wired js s = wired_unless js s s.is_disabled
-
 -- ---- a round
 
 -- the shards up to a place in the order are quiet
 abbrev pub Frozen : (List ℕ → ℕ) → ℕ → List Journal → List Shard → Type 0
 Frozen rank r js [] = ⊤
-Frozen rank r js (s ∷ ss) = (rank s.producer < r → IsQuiet js s) × Frozen rank r js ss
+Frozen rank r js (s ∷ ss) = (rank s.id < r → IsQuiet js s) × Frozen rank r js ss
 
 tails_before : (rank : List ℕ → ℕ) (t : Wiring) (ts ss : List Wiring) → AllBefore rank (t ∷ ts) ss → AllBefore rank ts ss
 tails_before rank t ts [] a = tt
@@ -162,12 +147,12 @@ itself rank s (inl apart) = apart
 itself rank s (inr less) = absurd (omega arith)
 
 -- a step of `s` leaves what `t` reads, where `t` is among the first places
-leaves : (rank : List ℕ → ℕ) (r : ℕ) (js : List Journal) (s : Shard) (t : Wiring) → IsBefore rank (wiring_of s) t → rank t.producer ≤ r → (rank s.producer < r → IsQuiet js s)
+leaves : (rank : List ℕ → ℕ) (r : ℕ) (js : List Journal) (s : Shard) (t : Wiring) → IsBefore rank (wiring_of s) t → rank t.id ≤ r → (rank s.id < r → IsQuiet js s)
     → IsQuiet js s ⊎ IsBeside s.outputs t.sources
 leaves rank r js s t (inl apart) upto quiet = inr apart
 leaves rank r js s t (inr less) upto quiet = inl (quiet (omega arith))
 
-frozen_step : (rank : List ℕ → ℕ) (r : ℕ) (js : List Journal) (s : Shard) (ts : List Shard) → FirstBefore rank (wiring_of s) (wirings_of ts) → (rank s.producer < r → IsQuiet js s)
+frozen_step : (rank : List ℕ → ℕ) (r : ℕ) (js : List Journal) (s : Shard) (ts : List Shard) → FirstBefore rank (wiring_of s) (wirings_of ts) → (rank s.id < r → IsQuiet js s)
     → Frozen rank r js ts → Frozen rank r (stepped js s).journals ts
 frozen_step rank r js s [] before quiet f = tt
 frozen_step rank r js s (t ∷ ts) before quiet f = (
@@ -178,7 +163,7 @@ frozen_step rank r js s (t ∷ ts) before quiet f = (
 -- A round in which the first places are quiet: one further place is, and what they read stays.
 pub record IsFurther (rank : List ℕ → ℕ) (r : ℕ) (js : List Journal) (ss : List Shard) (w : World) : Type 0 where
   pub frozen : Frozen rank (r + 1) w.journals w.shards
-  pub stay : (t : Wiring) → AreBefore rank (wirings_of ss) t → rank t.producer ≤ r → SourcesStay js w.journals t.sources
+  pub stay : (t : Wiring) → AreBefore rank (wirings_of ss) t → rank t.id ≤ r → SourcesStay js w.journals t.sources
   pub wirings : wirings_of w.shards ≡ wirings_of ss
 
 pub further : (rank : List ℕ → ℕ) (r : ℕ) (ss : List Shard) (js : List Journal) → AllBefore rank (wirings_of ss) (wirings_of ss) → Frozen rank r js ss → IsFurther rank r js ss (round ss js)
@@ -195,7 +180,7 @@ further rank r (s ∷ ss) js before f =
     record {
       frozen = (
         λ less. quiet_stays b.journals new b.shard
-            (subst (λ (u : Wiring). SourcesStay b.journals new u.sources) (sym same) (rest.stay t before.0.1 (subst (λ (u : Wiring). rank u.producer ≤ r) same (omega arith)))) quiet,
+            (subst (λ (u : Wiring). SourcesStay b.journals new u.sources) (sym same) (rest.stay t before.0.1 (subst (λ (u : Wiring). rank u.id ≤ r) same (omega arith)))) quiet,
         rest.frozen,
       );
       stay = λ u b4 upto. stay_two js b.journals new u.sources (stay_step js s u.sources (leaves rank r js s u b4.0 upto f.0)) (rest.stay u b4.1 upto);
@@ -253,8 +238,8 @@ rests_of js s k (inr (inr full)) = inr (inl full)
 
 pub all_rest : (js : List Journal) (ss : List Shard) → AllKept js ss → AllQuiet js ss → AllRest js ss
 all_rest js [] k quiet = tt
-all_rest js (s ∷ ss) k quiet = (rests_of js s k.0 quiet.0, all_rest js ss k.1 quiet.1)
+all_rest js (s ∷ ss) k quiet = (if_kept s.past (Kept js s) (Rests js s) (λ x. rests_of js s x quiet.0) k.0, all_rest js ss k.1 quiet.1)
 
--- after a settle every shard rests
+-- after a settle every shard that kept its definition rests
 pub settled_rests : (rank : List ℕ → ℕ) (w : World) → IsSound w → AreInOrder rank (wirings_of w.shards) → AllRest (settled w).journals (settled w).shards
 settled_rests rank w sound order = all_rest (settled w).journals (settled w).shards (sound_settled w sound).kept (settled_quiet rank w order)

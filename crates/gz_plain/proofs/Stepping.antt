@@ -5,11 +5,11 @@ use Rattle.std.proofs.lemmas.List.{length-append}
 use Rattle.gz_frame.specs.Messages.{Message}
 use Rattle.gz_app.specs.Applications.{Output}
 use Rattle.gz_plain.specs.Applications.{folded, put_out}
-use Rattle.gz_plain.specs.Journals.{Journal, place_of, appended}
+use Rattle.gz_plain.specs.Journals.{Journal, is_journal, place_of, appended}
 use Rattle.gz_plain.specs.Places.{ArePlaced, names_of}
 use Rattle.gz_plain.specs.Plain.{lines_from, ack_at}
 use Rattle.gz_plain.specs.Readers.{AreRead, accepted_all, reading_all, all_news, end_of_reader}
-use Rattle.gz_plain.specs.Running.{AllUpto, AreTaken, IsKept, AllKept, IsCommitted, read_further, read_up}
+use Rattle.gz_plain.specs.Running.{AllUpto, AreTaken, IsKept, IsLinked, AllKept, IsCommitted, journals_of, read_further, read_up}
 use Rattle.gz_plain.specs.Seen.{shard_of, source_of, name_of}
 use Rattle.gz_plain.specs.Shards as shards
 use Rattle.gz_plain.specs.Shards.{Beside, last_offsets, untaken, read_order, has_room, commit_if, committing, journals_after, stepped}
@@ -17,7 +17,7 @@ use Rattle.gz_plain.specs.Sources.{Source, froms_of, ends_of, all_committed}
 use Rattle.gz_plain.specs.declared.shard.Shard.{Shard}
 use Rattle.gz_plain.specs.declared.writer.Writer.{Writer}
 use Rattle.gz_plain.proofs.Longer.{Longer, longer_none, longer_two, longer_appended, longer_written}
-use Rattle.gz_plain.proofs.Places.{names_stay, place_stays, names_written, place_written}
+use Rattle.gz_plain.proofs.Places.{journal_stays, names_stay, place_stays, present_stays, names_written, place_written}
 use Rattle.gz_plain.proofs.Running.{sources_on, sources_reading, ends_on, read_on, read_reading, taken_reading, taken_own, taken_quiet, untaken_all, read_longer, taken_longer}
 use Rattle.gz_plain.proofs.Steps.{order_commit, less_than}
 use Rattle.gz_plain.proofs.Takes.{all_upto_later, all_upto_more, upto_ends, order_later, last_is_more}
@@ -70,12 +70,18 @@ placed_grown : (js new : List Journal) (ws : List Writer) → Grows js new → A
 placed_grown js new [] g placed = tt
 placed_grown js new (w ∷ ws) g placed = (placed.0 ∙ sym (g.places w.journal), placed_grown js new ws g placed.1)
 
+pub linked_grown : (js new : List Journal) (s : shards.Shard) → Grows js new → IsLinked js s → IsLinked new s
+linked_grown js new s g linked =
+    let same : (name : List ℕ) → is_journal name new ≡ is_journal name js = λ name. journal_stays name js new g.names in
+    (present_stays (journals_of s.sources) js new same linked.0, present_stays s.outputs js new same linked.1)
+
 pub kept_grown : (js new : List Journal) (s : Shard) → Grows js new → IsKept js s → IsKept new s
 kept_grown js new s g k = record {
   readers = read_longer js new s.readers g.longer g.places k.readers;
   taken = taken_longer js new (last_offsets (shard_of s)) s.readers g.longer k.readers k.taken;
   upto = all_upto_later js new s.commits.items (shard_of s).sources g.longer k.upto;
   writers = placed_grown js new s.writers.items g k.writers;
+  linked = linked_grown js new (shard_of s) g k.linked;
   count = k.count ∙ ap (λ (ms : List Message). length ms) (sym (order_later js new (froms_of (shard_of s).sources) s.commits.items (shard_of s).sources g.longer k.upto));
 }
 
@@ -93,11 +99,13 @@ kept_further js s k =
     let P : List Source → Type 0 = λ ss. AllUpto js s.commits.items ss in
     let Q : shards.Shard → Type 0 = λ x. AreTaken js (last_offsets x) (reading_all js s.readers) in
     let R : shards.Shard → Type 0 = λ x. s.messages ≡ length (read_order js x) in
+    let L : shards.Shard → Type 0 = λ x. IsLinked js x in
     record {
       readers = read_reading js s.readers k.readers;
       taken = subst Q (sym (seen_further js s)) (taken_reading js (last_offsets (shard_of s)) s.readers k.taken);
       upto = subst P (sym (sources_reading js s.readers)) k.upto;
       writers = k.writers;
+      linked = subst L (sym (seen_further js s)) k.linked;
       count = subst R (sym (seen_further js s)) k.count;
     }
 
@@ -113,11 +121,13 @@ kept_up js s k none =
     let P : List Source → Type 0 = λ ss. AllUpto js s.commits.items ss in
     let Q : shards.Shard → Type 0 = λ x. AreTaken js (last_offsets x) (accepted_all (reading_all js s.readers)) in
     let R : shards.Shard → Type 0 = λ x. s.messages ≡ length (read_order js x) in
+    let L : shards.Shard → Type 0 = λ x. IsLinked js x in
     record {
       readers = read_on js s.readers k.readers;
       taken = subst Q (sym (seen_up js s k.readers)) (taken_quiet js (last_offsets (shard_of s)) s.readers k.readers k.taken none);
       upto = subst P (sym (sources_on js s.readers k.readers)) k.upto;
       writers = k.writers;
+      linked = subst L (sym (seen_up js s k.readers)) k.linked;
       count = subst R (sym (seen_up js s k.readers)) k.count;
     }
 
@@ -171,7 +181,7 @@ seen_commit js s new ms read c =
     let sources : map source_of new.readers ≡ map source_of s.readers = ap (λ rs. map source_of rs) c.readers ∙ sources_on js s.readers read in
     let ends : new.commits.items ≡ s.commits.items ++ ends_of js (map source_of s.readers) ∷ [] =
     c.commits ∙ ap (λ (tos : List ℕ). s.commits.items ++ tos ∷ []) (ends_on js s.readers read) in
-    rw (sources, ends, c.producer, c.writers, c.app, c.is_disabled, c.store) refl
+    rw (sources, ends, c.id, c.log, c.producer, c.writers, c.app, c.is_disabled, c.past, c.store) refl
 
 pub step_commit : (js : List Journal) (s : Shard) → IsKept js s → s.is_disabled ≡ false → (all_news js s.readers ≡ [] → ⊥) → nat_lt (s.producer.last + length (all_news js s.readers) + 1) (2 ^ 64) ≡ true
     → stepped js (shard_of s) ≡ shards.commit js (all_news js s.readers) (shard_of s)
@@ -198,6 +208,7 @@ kept_commit js s new ms is k c =
       taken = rw (last, c.readers) (taken_own js (accepted_all (reading_all js s.readers)) on);
       upto = rw (sources, ends) (all_upto_more js s.commits.items (map source_of s.readers) (ends_of js (map source_of s.readers)) (upto_ends js (map source_of s.readers)) k.upto);
       writers = subst (λ ws. ArePlaced js ws) (sym c.writers) k.writers;
+      linked = subst (λ (x : shards.Shard). IsLinked js x) (sym (seen_commit js s new ms k.readers c)) k.linked;
       count = c.messages ∙ ap (λ (n : ℕ). n + length ms) k.count ∙ sym (length-append (read_order js (shard_of s)) ms) ∙ ap (λ (xs : List Message). length xs) (sym order);
     }
 

@@ -218,7 +218,7 @@ foreign_two p a b c f g =
           ∙ f.none;
     }
 
-of_foreign : (p old new : List ℕ) → is_whole old ≡ true → Foreign p old new → of_producer p (messages_alone (messages_of 0 new)) ≡ of_producer p (messages_alone (messages_of 0 old))
+pub of_foreign : (p old new : List ℕ) → is_whole old ≡ true → Foreign p old new → of_producer p (messages_alone (messages_of 0 new)) ≡ of_producer p (messages_alone (messages_of 0 old))
 of_foreign p old new whole f =
     let front : List Message = messages_alone (messages_of 0 old) in
     ap (λ (t : List ℕ). of_producer p (messages_alone (messages_of 0 t))) f.joined
@@ -240,6 +240,19 @@ all_foreign_none p js name = foreign_none p (text_of name js)
 
 pub all_foreign_two : (p : List ℕ) (a b c : List Journal) → AllForeign p a b → AllForeign p b c → AllForeign p a c
 all_foreign_two p a b c f g name = foreign_two p (text_of name a) (text_of name b) (text_of name c) (f name) (g name)
+
+-- no journal has a message of the producer
+abbrev pub IsClean : List ℕ → List Journal → Type 0
+IsClean p js = (name : List ℕ) → of_producer p (messages_alone (messages_of 0 (text_of name js))) ≡ []
+
+-- what others write leaves that
+pub clean_foreign : (p : List ℕ) (js new : List Journal) → AreWhole js → AllForeign p js new → IsClean p js → IsClean p new
+clean_foreign p js new whole f clean name = of_foreign p (text_of name js) (text_of name new) (whole name) (f name) ∙ clean name
+
+-- then each output has the transactions of no commits
+pub holds_clean : (js : List Journal) (p : List ℕ) (count place : ℕ) (names : List (List ℕ)) → IsClean p js → Holds js p count place names []
+holds_clean js p count place [] clean = tt
+holds_clean js p count place (n ∷ names) clean = (clean n, holds_clean js p count (place + 1) names clean)
 
 -- lines of another producer, or of none that is this one
 foreign_lines : (p text : List ℕ) (ms : List Message) → Each IsLine ms → of_producer p ms ≡ [] → Foreign p text (text ++ text_of_lines ms)

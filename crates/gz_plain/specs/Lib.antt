@@ -5,6 +5,7 @@ pub mod Applications
 pub mod Journals
 pub mod Sources
 pub mod Shards
+pub mod Definitions
 pub mod Promise
 pub mod Order
 pub mod Runs

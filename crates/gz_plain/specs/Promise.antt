@@ -1,6 +1,6 @@
 -- What every shard promises: each committed message of its sources is taken once and in order, and readers of its
 -- outputs accept what its application puts out, each once and in order.
-use Rattle.std.specs.Prelude.{◌≡◌, ℕ, ◌+◌, ◌==◌, List, [], ◌∷◌, length, map, filter, ⊤}
+use Rattle.std.specs.Prelude.{◌≡◌, ℕ, ◌+◌, ◌==◌, List, [], ◌∷◌, length, map, filter, Option, Some, None, ⊤}
 use Rattle.gz_model.specs.Prefix.{IsPrefix}
 use Rattle.gz_frame.specs.Release.{Release, of_producer}
 use Rattle.gz_app.specs.Applications.{Output}
@@ -8,7 +8,7 @@ use Rattle.gz_plain.specs.Applications.{folded, put_out}
 use Rattle.gz_plain.specs.ExactlyOnce.{NeverFall, outputs_in}
 use Rattle.gz_plain.specs.Journals.{Journal, text_of}
 use Rattle.gz_plain.specs.Plain.{messages_of, order_from}
-use Rattle.gz_plain.specs.Shards.{Shard, read_order, choice}
+use Rattle.gz_plain.specs.Shards.{Past, Shard, read_order, choice}
 use Rattle.gz_plain.specs.Sources.{Source, committed}
 use Rattle.gz_sequencer.specs.Committed as sequencer
 
@@ -64,7 +64,13 @@ pub record ExactlyOnce (js : List Journal) (s : Shard) : Type 0 where
 abbrev pub ReadsAll : List Journal → Shard → Type 0
 ReadsAll js s = ReadsEach js s.sources s.commits
 
--- every shard keeps the promise
+-- This is said of a shard that kept the definition that it began with. Where earlier ones left it something, nothing is
+-- said.
+abbrev pub IfKept : Option Past → Type 0 → Type 0
+IfKept None said = said
+IfKept (Some past) said = ⊤
+
+-- every shard that kept its definition keeps the promise
 abbrev pub AllExactlyOnce : List Journal → List Shard → Type 0
 AllExactlyOnce js [] = ⊤
-AllExactlyOnce js (s ∷ ss) = ExactlyOnce js s × AllExactlyOnce js ss
+AllExactlyOnce js (s ∷ ss) = IfKept s.past (ExactlyOnce js s) × AllExactlyOnce js ss

@@ -19,6 +19,7 @@ is_none (m ∷ ms) = false
 -- A shard is caught up where it has read all that its sources have committed.
 abbrev pub report_of : List Journal → Shard → ShardReport
 report_of js s = record {
+  id = s.id;
   commits = length s.commits;
   messages = length (read_order js s);
   is_caught = is_none (untaken js s);

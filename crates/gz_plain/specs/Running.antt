@@ -7,7 +7,9 @@ use Rattle.gz_plain.specs.Applications.{folded, put_out}
 use Rattle.gz_plain.specs.Journals.{Journal}
 use Rattle.gz_plain.specs.Places.{ArePlaced}
 use Rattle.gz_plain.specs.Readers.{AreRead, accepted_all, end_of_reader, reading_all, text_behind, text_for}
+use Rattle.gz_plain.specs.Runs.{ArePresent}
 use Rattle.gz_plain.specs.Seen.{shard_of}
+use Rattle.gz_plain.specs.Shards as shards
 use Rattle.gz_plain.specs.Shards.{read_order, last_offsets}
 use Rattle.gz_plain.specs.Sources.{Source, end_of}
 use Rattle.gz_plain.specs.declared.reader.Reader.{Reader}
@@ -39,12 +41,21 @@ AreTaken js [] (r ∷ rs) = ⊥
 AreTaken js (o ∷ os) [] = ⊥
 AreTaken js (o ∷ os) (r ∷ rs) = IsTaken o r (text_for js r) × AreTaken js os rs
 
+-- the journals that sources read
+abbrev pub journals_of : List Source → List (List ℕ)
+journals_of sources = map (λ s. s.journal) sources
+
+-- what a shard reads and writes is there
+abbrev pub IsLinked : List Journal → shards.Shard → Type 0
+IsLinked js s = ArePresent (journals_of s.sources) js × ArePresent s.outputs js
+
 -- what is kept of a shard fits the journals
 pub record IsKept (js : List Journal) (s : Shard) : Type 0 where
   pub readers : AreRead js s.readers
   pub taken : AreTaken js (last_offsets (shard_of s)) s.readers
   pub upto : AllUpto js s.commits.items (shard_of s).sources
   pub writers : ArePlaced js s.writers.items
+  pub linked : IsLinked js (shard_of s)
   pub count : s.messages ≡ length (read_order js (shard_of s))
 
 abbrev pub AllKept : List Journal → List Shard → Type 0
@@ -66,6 +77,9 @@ pub record IsCommitted (s : Shard) (ms : List Message) (new : Shard) : Type 0 wh
   pub writers : new.writers.items ≡ s.writers.items
   pub app : new.app ≡ s.app
   pub is_disabled : new.is_disabled ≡ s.is_disabled
+  pub id : new.id ≡ s.id
+  pub log : new.log ≡ s.log
+  pub past : new.past ≡ s.past
   pub commits : new.commits.items ≡ s.commits.items ++ map end_of_reader (accepted_all s.readers) ∷ []
   pub messages : new.messages ≡ s.messages + length ms
   pub store : new.store ≡ folded s.app s.store ms

@@ -1,47 +1,34 @@
 -- What may happen to journals and shards, one thing after another.
-use Rattle.std.specs.Prelude.{◌≡◌, ℕ, ◌+◌, List, [], ◌∷◌, map, Bool, true, Some, ⊤}
-use Rattle.gz_uuid.specs.Producer.{shard_octets, client_octets}
+use Rattle.std.specs.Prelude.{◌≡◌, ℕ, ◌+◌, ◌-◌, ◌<◌, ◌^◌, List, [], ◌∷◌, ◌++◌, length, map, Bool, true, false, if◌then◌else◌, Some, ⊤}
+use Rattle.std.specs.Str.{bytes_eq}
+use Rattle.gz_uuid.specs.Producer.{client_octets}
 use Rattle.gz_frame.specs.Messages.{Message}
 use Rattle.gz_frame.specs.Line.{line_of}
 use Rattle.gz_frame.specs.Text.{message_of}
-use Rattle.gz_app.specs.declared.app.AppKind.{AppKind}
+use Rattle.gz_plain.specs.Definitions.{Definition, redefined}
 use Rattle.gz_plain.specs.Journals.{Journal, is_journal, appended}
 use Rattle.gz_plain.specs.Order.{Apart}
 use Rattle.gz_plain.specs.Shards.{Shard, World, settled, text_of_lines}
-use Rattle.gz_plain.specs.Sources.{Source}
 
 -- ---- what there is at first
 
--- what a shard is said to be
-pub record Definition : Type 0 where
-  pub sources : List Source
-  pub outputs : List (List ℕ)
-  pub app : AppKind
-  pub is_disabled : Bool
-
--- A shard that has read nothing. The producer of its lines is 05 and its place among the shards, from 1.
-abbrev pub fresh : ℕ → Definition → Shard
-fresh place d = record {
-  producer = shard_octets place;
-  sources = d.sources;
-  outputs = d.outputs;
-  app = d.app;
-  is_disabled = d.is_disabled;
-  commits = [];
-  clock = 0;
-  store = [];
-}
-
-abbrev pub all_fresh : ℕ → List Definition → List Shard
-all_fresh place [] = []
-all_fresh place (d ∷ ds) = fresh place d ∷ all_fresh (place + 1) ds
+-- neither journals nor shards
+abbrev pub nothing : World
+nothing = record { journals = []; shards = [] }
 
 abbrev pub all_empty : List (List ℕ) → List Journal
 all_empty names = map (λ name. record { name = name; text = [] }) names
 
--- journals of these names, and shards of these definitions
-abbrev pub begun : List (List ℕ) → List Definition → World
-begun names ds = record { journals = all_empty names; shards = all_fresh 1 ds }
+-- empty journals of these names come behind the others
+abbrev pub with_journals : List (List ℕ) → List Journal → List Journal
+with_journals names js = js ++ all_empty names
+
+-- Journals of these names come, and the shards are of these definitions from now on.
+abbrev pub changed : List (List ℕ) → List Definition → World → World
+changed names ds w = record {
+  journals = with_journals names w.journals;
+  shards = redefined (with_journals names w.journals) (1 + length w.shards) ds w.shards;
+}
 
 -- each of these is named once
 abbrev pub Distinct : List (List ℕ) → Type 0
@@ -58,16 +45,25 @@ abbrev pub AreDefined : List Journal → List Definition → Type 0
 AreDefined js [] = ⊤
 AreDefined js (d ∷ ds) = Distinct d.outputs × ArePresent d.outputs js × AreDefined js ds
 
+-- Among the definitions those of the shards come in their order, so that none of them is lost.
+abbrev pub continues : List Definition → List Shard → Bool
+continues [] [] = true
+continues [] (s ∷ ss) = false
+continues (d ∷ ds) [] = true
+continues (d ∷ ds) (s ∷ ss) = if bytes_eq s.id d.id then continues ds ss else continues ds (s ∷ ss)
+
 -- ---- what happens
 
--- messages land in the journal of a name, or everything that is due happens
+-- messages land in the journal of a name, everything that is due happens, or journals and shards are changed
 pub data Event : Type 0 where
   lands : List ℕ → List Message → Event
   settles : Event
+  changes : List (List ℕ) → List Definition → Event
 
 abbrev pub after_event : Event → World → World
 after_event (lands name ms) w = record w { journals = appended name (text_of_lines ms) w.journals }
 after_event settles w = settled w
+after_event (changes names ds) w = changed names ds w
 
 abbrev pub after_events : List Event → World → World
 after_events [] w = w
@@ -82,8 +78,14 @@ abbrev pub AreClients : List Message → Type 0
 AreClients [] = ⊤
 AreClients (m ∷ ms) = IsLine m × ((number : ℕ) × (m.producer ≡ client_octets number)) × AreClients ms
 
--- all that lands is messages of clients
-abbrev pub AreLawful : List Event → Type 0
-AreLawful [] = ⊤
-AreLawful (lands name ms ∷ es) = AreClients ms × AreLawful es
-AreLawful (settles ∷ es) = AreLawful es
+-- All that lands is messages of clients; shards put out to journals that are there, none is lost, and there is a
+-- number for each.
+abbrev pub MayHappen : Event → World → Type 0
+MayHappen (lands name ms) w = AreClients ms
+MayHappen settles w = ⊤
+MayHappen (changes names ds) w =
+    AreDefined (with_journals names w.journals) ds × (continues ds w.shards ≡ true) × (length ds < 2 ^ 40 - 1)
+
+abbrev pub MayAllHappen : List Event → World → Type 0
+MayAllHappen [] w = ⊤
+MayAllHappen (e ∷ es) w = MayHappen e w × MayAllHappen es (after_event e w)

@@ -14,11 +14,14 @@ name_of w = w.journal
 
 abbrev pub shard_of : Shard → shards.Shard
 shard_of s = record {
+  id = s.id;
+  log = s.log;
   producer = s.producer.id;
   sources = map source_of s.readers;
   outputs = map name_of s.writers.items;
   app = s.app;
   is_disabled = s.is_disabled;
+  past = s.past;
   commits = s.commits.items;
   clock = s.producer.last;
   store = s.store;

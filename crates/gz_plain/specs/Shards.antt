@@ -1,5 +1,5 @@
 -- Shards over the texts of journals, and what a step and a settle make of them.
-use Rattle.std.specs.Prelude.{ℕ, zero, suc, ◌+◌, ◌%◌, ◌==◌, List, [], ◌∷◌, ◌++◌, length, filter, flat_map, sum, nat_lt, ◌^◌, Bool, if◌then◌else◌}
+use Rattle.std.specs.Prelude.{ℕ, zero, suc, ◌+◌, ◌%◌, ◌==◌, List, [], ◌∷◌, ◌++◌, length, filter, flat_map, sum, nat_lt, ◌^◌, Bool, if◌then◌else◌, Option}
 use Rattle.gz_frame.specs.Messages.{Message}
 use Rattle.gz_frame.specs.Line.{line_of}
 use Rattle.gz_app.specs.Applications.{Output}
@@ -10,15 +10,29 @@ use Rattle.gz_plain.specs.Journals.{Journal, appended}
 use Rattle.gz_plain.specs.Plain.{lines_from, ack_at}
 use Rattle.gz_plain.specs.Sources.{Source, froms_of, ends_of, all_committed, parts, order_of, last_of}
 
--- A shard: the producer of its lines, its sources, the journals that it puts out to, in rising order of their names,
--- its application, and whether it is disabled; and what it has come to: the offsets of its sources in each commit,
--- the last clock of its lines, and the application's state.
+-- the offset to which a shard has read a journal
+pub record Mark : Type 0 where
+  pub journal : List ℕ
+  pub offset : ℕ
+
+-- What earlier definitions of a shard leave it: how many commits they made, and how far each journal was read then.
+pub record Past : Type 0 where
+  pub commits : ℕ
+  pub marks : List Mark
+
+-- A shard: its id, the prefix of its recovery log, the producer of its lines, its sources, the journals that it puts
+-- out to, in rising order of their names, its application, and whether it is disabled; what earlier definitions left
+-- it, and nothing where it keeps the one that it began with; and what it has come to: the offsets of its sources in
+-- each commit, the last clock of its lines, and the application's state.
 pub record Shard : Type 0 where
+  pub id : List ℕ
+  pub log : List ℕ
   pub producer : List ℕ
   pub sources : List Source
   pub outputs : List (List ℕ)
   pub app : AppKind
   pub is_disabled : Bool
+  pub past : Option Past
   pub commits : List (List ℕ)
   pub clock : ℕ
   pub store : State

@@ -1,18 +1,20 @@
 //! Journals and the shards that read and write them.
 ghost use Rattle.std.specs.Prelude.{◌≡◌, ◌+◌, ◌<◌, ◌≤◌, ◌^◌, length, map, IfOk, OnOk, OnErr};
 ghost use Rattle.gz_plain.specs.Journals.{appended, place_of};
+ghost use Rattle.gz_plain.specs.Places.{names_of};
 ghost use Rattle.gz_plain.specs.Reports.{report_of};
-ghost use Rattle.gz_plain.specs.Runs.{Distinct, begun};
+ghost use Rattle.gz_plain.specs.Runs.{Distinct, changed, nothing, with_journals};
 ghost use Rattle.gz_plain.specs.Shards.{settled};
-ghost use Rattle.gz_plain.specs.Cluster.{AreSmall, definitions_of};
+ghost use Rattle.gz_plain.specs.Cluster.{AreLinked, AreSmall, definitions_of};
 
-use crate::begin::{begin_journals, begin_shards};
+use crate::begin::add_journals;
+use crate::change::redefine_all;
 use crate::journals::{Journal, Journals};
 use crate::report::{ShardReport, report_all};
 use crate::settle::settle_all;
 use crate::shard::Shard;
 use gz_app::AppKind;
-use gz_label::{Name, NoMemory};
+use gz_label::{Attempt, Blob, Name, NoMemory};
 use std::alloc::Global;
 use std::marker::Model;
 use std::mem;
@@ -27,6 +29,9 @@ pub struct Source {
 /// What a shard is said to be. Outputs are in rising order of their names.
 #[derive(Drop)]
 pub struct Definition {
+    pub id: Name,
+    /// The prefix of its recovery log.
+    pub log: Name,
     pub sources: Vec<Source>,
     pub outputs: Vec<Name>,
     pub app: AppKind,
@@ -55,22 +60,40 @@ impl Model for Cluster {
 }
 
 impl Cluster {
-    /// Empty journals of these names, and shards of these definitions, which have read nothing. The producer of a
-    /// shard's lines is 05 and its place in the list, from 1.
-    #[tactic(auto, using(crate::proofs::Places::names_empty))]
-    pub fn begin(
+    /// Neither journals nor shards. It takes no memory.
+    pub fn new(alloc: Global) -> Cluster
+        ensures { result ≡ nothing }
+    {
+        Cluster {
+            journals: Journals::new(alloc),
+            shards: Vec::new(alloc),
+        }
+    }
+
+    /// Journals of these names come behind the others, empty, and the shards are of these definitions from now on. A
+    /// definition of the next shard's id is that shard's, and any other one begins a shard, whose lines carry the
+    /// producer 05 and the next number. A shard of another definition reads on from where its commits have read each
+    /// journal to. After NoMemory it isn't used again.
+    #[tactic(auto, using(crate::proofs::Added::all_kept_added, crate::proofs::Settling::length_seen))]
+    pub fn change(
+        &mut self,
         alloc: Global,
         names: Vec<Name>,
         definitions: Vec<Definition>,
-    ) -> Result<Cluster, NoMemory>
-        requires names { Distinct names.items }
-        requires few { 1 + length definitions.items < 2 ^ 40 }
+    ) -> Result<(), NoMemory>
+        requires names { Distinct (names_of (with_journals names.items self.old.journals)) }
+        requires few { length self.old.shards + length definitions.items < 2 ^ 40 }
         requires offsets { AreSmall definitions.items }
-        ensures { IfOk result (λ cluster. cluster ≡ begun names.items (definitions_of definitions.items)) }
+        requires linked { AreLinked (with_journals names.items self.old.journals) (definitions_of definitions.items) }
+        ensures { OnOk result (self.new ≡ changed names.items (definitions_of definitions.items) self.old) }
     {
-        let journals = begin_journals(alloc, names)?;
-        let shards = begin_shards(alloc, definitions, &journals)?;
-        Ok(Cluster { journals, shards })
+        let mut journals = mem::replace(&mut self.journals, Journals::new(alloc));
+        let shards = mem::replace(&mut self.shards, Vec::new(alloc));
+        add_journals(alloc, names, &mut journals)?;
+        let shards = redefine_all(alloc, definitions, shards, &journals)?;
+        self.journals = journals;
+        self.shards = shards;
+        Ok(())
     }
 
     /// The journals, in the order in which they were named. It takes no memory.
@@ -87,14 +110,15 @@ impl Cluster {
         self.journals.place_of(name)
     }
 
-    /// Puts the bytes behind the text of the journal of this name, if there is one. After NoMemory nothing has changed.
+    /// Puts the bytes behind the text of the journal of this name, if there is one, as an entry of this attempt. After
+    /// NoMemory nothing has changed.
     #[tactic(auto, using(crate::proofs::Places::appended_is, crate::proofs::Places::distinct_stay_at))]
-    pub fn append(&mut self, name: &[u8], bytes: &[u8]) -> Result<(), NoMemory>
-        ensures ok { OnOk result (self.new ≡ record self.old { journals = appended name.now bytes.now self.old.journals }) }
+    pub fn append(&mut self, name: &[u8], attempt: Attempt, bytes: Blob) -> Result<(), NoMemory>
+        ensures ok { OnOk result (self.new ≡ record self.old { journals = appended name.now bytes self.old.journals }) }
         ensures err { OnErr result (self.new ≡ self.old) }
     {
         let place = self.journals.place_of(name);
-        self.journals.append_at(place, bytes)?;
+        self.journals.append_at(place, attempt, bytes)?;
         Ok(())
     }
 

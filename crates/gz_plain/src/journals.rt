@@ -1,30 +1,30 @@
 //! Journals: texts that only grow.
-ghost use Rattle.std.specs.Prelude.{◌≡◌, ◌≤◌, ◌^◌, ◌++◌, ◌∷◌, [], length, OnOk, OnErr, All};
+ghost use Rattle.std.specs.Prelude.{◌≡◌, ◌≤◌, ◌^◌, ◌++◌, ◌∷◌, [], length, take, drop, IfOk, OnOk, OnErr, MatchOption};
 ghost use Rattle.gz_plain.specs.Journals.{place_of, text_at, appended_at};
 
-use gz_label::{Blob, Name, NoMemory};
+use gz_journal::JournalState;
+use gz_label::{Attempt, Blob, Name, NoMemory};
 use std::alloc::Global;
 use std::marker::Model;
 
-/// The most bytes of a journal, 2^62. No memory holds more.
-const MAX_TEXT: usize = 1 << 62;
-
-/// A journal: its name, and its text, of at most 2^62 bytes.
+/// A journal: its name, and its text, of at most 2^62 bytes, which is kept as the entries that were appended. It has no
+/// registers.
 #[derive(Debug, Drop)]
 pub struct Journal {
     name: Name,
-    text: Blob,
+    state: JournalState,
 }
 
 impl Model for Journal {
-    ghost use Rattle.std.specs.Prelude.{length, ◌≤◌, ◌^◌};
+    ghost use Rattle.std.specs.Prelude.{◌≡◌, ◌≤◌, ◌^◌, []};
+    ghost use Rattle.gz_journal.specs.JournalList.{end_of, registers_of, text_of};
     ghost use Rattle.gz_plain.specs.Journals.{Journal as Seen};
 
     ghost Value = { Seen };
 
-    ghost view = { λ a. record { name = a.name; text = a.text } };
+    ghost view = { λ a. record { name = a.name; text = text_of a.state } };
 
-    ghost invariant = { λ a. length a.text ≤ 2 ^ 62 };
+    ghost invariant = { λ a. (end_of a.state ≤ 2 ^ 62) × (registers_of a.state ≡ []) };
 }
 
 impl Journal {
@@ -34,7 +34,7 @@ impl Journal {
     {
         Journal {
             name,
-            text: Blob::new(alloc),
+            state: JournalState::new(alloc),
         }
     }
 
@@ -45,23 +45,35 @@ impl Journal {
         &self.name
     }
 
-    /// The text. It takes no memory.
-    pub fn text(&self) -> &[u8]
-        ensures value { result.now ≡ self.now.text }
-        ensures short { length self.now.text ≤ 2 ^ 62 }
+    /// The length of the text, at most 2^62. It takes no memory.
+    pub fn end(&self) -> u64
+        ensures value { result ≡ length self.now.text }
+        ensures short { result ≤ 2 ^ 62 }
     {
-        self.text.as_slice()
+        self.state.end()
     }
 
-    /// Puts the bytes behind the text. After NoMemory nothing has changed.
-    pub fn append(&mut self, bytes: &[u8]) -> Result<(), NoMemory>
-        ensures ok { OnOk result (self.new ≡ record self.old { text = self.old.text ++ bytes.now }) }
+    /// The text from the offset on, at most `limit` bytes of it, and none at or past the end. Time goes with these bytes,
+    /// and with the logarithm of the number of entries.
+    pub fn read_at(&self, offset: u64, limit: u64) -> Result<Blob, NoMemory>
+        ensures { IfOk result (λ bytes. bytes ≡ take limit (drop offset self.now.text)) }
+    {
+        let bytes = self.state.read_at(offset, limit)?;
+        Ok(bytes)
+    }
+
+    /// Puts the bytes behind the text, as one entry unless they are none. More than 2^62 bytes fit no memory. After
+    /// NoMemory nothing has changed.
+    #[tactic(auto, using(gz_journal::proofs::Plain::plain_text, gz_journal::proofs::Plain::plain_refused))]
+    pub fn append(&mut self, attempt: Attempt, bytes: Blob) -> Result<(), NoMemory>
+        ensures ok { OnOk result (self.new ≡ record self.old { text = self.old.text ++ bytes }) }
         ensures err { OnErr result (self.new ≡ self.old) }
     {
-        if bytes.len() > MAX_TEXT - self.text.len() {
+        let landed = self.state.append(attempt, bytes)?;
+        if !landed.is_landed() {
             return Err(NoMemory);
         }
-        self.text.append(bytes)
+        Ok(())
     }
 }
 
@@ -91,28 +103,29 @@ fn place_among(journals: &[Journal], name: &[u8]) -> usize
     journals.len()
 }
 
-/// The text at this place, and none where there is no such place.
+/// The journal at this place, which has the text there.
 #[tactic(auto, using(crate::proofs::Places::text_at_read, crate::proofs::Places::text_at_past))]
-fn text_among(journals: &[Journal], place: usize) -> &[u8]
-    ensures value { result.now ≡ text_at place journals.now }
-    ensures short { length (text_at place journals.now) ≤ 2 ^ 62 }
+fn journal_among(journals: &[Journal], place: usize) -> Option<&Journal>
+    ensures { MatchOption result (text_at place journals.now ≡ []) (λ journal. journal.now.text ≡ text_at place journals.now) }
 {
-    match journals.get(place) {
-        Some(journal) => journal.text(),
-        None => &[],
-    }
+    journals.get(place)
 }
 
 /// Puts the bytes behind the text at this place, if there is one. After NoMemory nothing has changed.
 #[tactic(auto, using(crate::proofs::Places::appended_at_set, crate::proofs::Places::appended_at_past))]
-fn append_among(journals: &mut [Journal], place: usize, bytes: &[u8]) -> Result<(), NoMemory>
-    ensures ok { OnOk result (journals.new ≡ appended_at place bytes.now journals.old) }
+fn append_among(
+    journals: &mut [Journal],
+    place: usize,
+    attempt: Attempt,
+    bytes: Blob,
+) -> Result<(), NoMemory>
+    ensures ok { OnOk result (journals.new ≡ appended_at place bytes journals.old) }
     ensures err { OnErr result (journals.new ≡ journals.old) }
 {
     if place >= journals.len() {
         return Ok(());
     }
-    journals[place].append(bytes)
+    journals[place].append(attempt, bytes)
 }
 
 impl Journals {
@@ -147,19 +160,29 @@ impl Journals {
         place_among(self.journals.as_slice(), name)
     }
 
-    /// The text of the journal at this place, and none where there is no such place.
-    pub fn text_at(&self, place: usize) -> &[u8]
-        ensures value { result.now ≡ text_at place self.now }
-        ensures short { length (text_at place self.now) ≤ 2 ^ 62 }
+    /// The journal at this place. None exactly where there is no such place. It takes no memory.
+    pub fn get(&self, place: usize) -> Option<&Journal>
+        ensures { MatchOption result (text_at place self.now ≡ []) (λ journal. journal.now.text ≡ text_at place self.now) }
     {
-        text_among(self.journals.as_slice(), place)
+        journal_among(self.journals.as_slice(), place)
+    }
+
+    /// The length of the text at this place, at most 2^62, and 0 where there is no such place.
+    pub fn end_at(&self, place: usize) -> u64
+        ensures value { result ≡ length (text_at place self.now) }
+        ensures short { result ≤ 2 ^ 62 }
+    {
+        match self.get(place) {
+            Some(journal) => journal.end(),
+            None => 0,
+        }
     }
 
     /// Puts the bytes behind the text of the journal at this place, if there is one. After NoMemory nothing has changed.
-    pub fn append_at(&mut self, place: usize, bytes: &[u8]) -> Result<(), NoMemory>
-        ensures ok { OnOk result (self.new ≡ appended_at place bytes.now self.old) }
+    pub fn append_at(&mut self, place: usize, attempt: Attempt, bytes: Blob) -> Result<(), NoMemory>
+        ensures ok { OnOk result (self.new ≡ appended_at place bytes self.old) }
         ensures err { OnErr result (self.new ≡ self.old) }
     {
-        append_among(self.journals.as_mut_slice(), place, bytes)
+        append_among(self.journals.as_mut_slice(), place, attempt, bytes)
     }
 }

@@ -2,10 +2,15 @@
 #![tactic(auto)]
 
 mod begin;
+mod change;
 mod cluster;
+mod feed;
 mod journals;
 mod laws;
+mod past;
 mod reader;
+mod redefine;
+mod remark;
 mod report;
 mod settle;
 mod shard;
@@ -15,5 +20,5 @@ mod writer_tests;
 
 pub use cluster::{Cluster, Definition, Source};
 pub use journals::{Journal, Journals};
-pub use laws::{a_settle_ends, every_shard_is_exactly_once};
+pub use laws::{a_change_loses_no_shard, a_settle_ends, every_shard_is_exactly_once};
 pub use report::{ShardReport, count_committed};

@@ -1,8 +1,10 @@
 //! What a shard reads of a source.
-ghost use Rattle.std.specs.Prelude.{◌≡◌, ◌≤◌, ◌^◌, ◌-◌, ◌++◌, [], None, length, drop, map, IfOk, OnOk};
+ghost use Rattle.std.specs.Prelude.{◌≡◌, ◌≤◌, ◌^◌, ◌++◌, [], None, length, drop, map, IfOk, OnOk};
 ghost use Rattle.gz_sequencer.specs.Machine.{at, fed, point_of, resumed, started};
+ghost use Rattle.gz_plain.specs.Journals.{text_at};
 ghost use Rattle.gz_plain.specs.Readers.{AreRead, IsRead, accepted, accepted_all, all_news, end_of_reader, news, reading, reading_all, HaveRoom};
 
+use crate::feed::feed;
 use crate::journals::Journals;
 use gz_frame::Messages;
 use gz_label::{Name, NoMemory};
@@ -36,13 +38,6 @@ pub struct Reader {
     pub next: Option<Next>,
 }
 
-/// How many bytes a text has behind an offset.
-fn len_behind(from: u64, text: &[u8]) -> u64
-    ensures { result ≡ length text.now - from }
-{
-    (text.len() as u64).saturating_sub(from)
-}
-
 /// Takes all that the sequencer has released, and puts it behind the messages.
 pub fn drain(sequencer: &mut Sequencer, messages: &mut Messages) -> Result<(), NoMemory>
     ensures messages { OnOk result (messages.new ≡ messages.old ++ sequencer.old.released) }
@@ -54,22 +49,23 @@ pub fn drain(sequencer: &mut Sequencer, messages: &mut Messages) -> Result<(), N
     Ok(())
 }
 
-/// Goes on from a checkpoint to the end of the text: puts the messages that it releases behind the others, and answers
-/// the checkpoint at the end.
+/// Goes on from a checkpoint to the end of the text at this place: puts the messages that it releases behind the others,
+/// and answers the checkpoint at the end.
+#[tactic(auto, using(crate::proofs::Pieces::take_rest))]
 fn resume(
     alloc: Global,
     point: &SourcePoint,
-    text: &[u8],
+    journals: &Journals,
+    place: usize,
     messages: &mut Messages,
 ) -> Result<SourcePoint, NoMemory>
-    requires within { at (resumed point.now) ≤ length text.now }
-    requires short { length text.now ≤ 2 ^ 62 }
-    ensures messages { OnOk result (messages.new ≡ messages.old ++ (fed (resumed point.now) (drop (at (resumed point.now)) text.now)).released) }
-    ensures point { IfOk result (λ next. next ≡ point_of (fed (resumed point.now) (drop (at (resumed point.now)) text.now))) }
+    requires { at (resumed point.now) ≤ length (text_at place journals.now) }
+    ensures messages { OnOk result (messages.new ≡ messages.old ++ (fed (resumed point.now) (drop (at (resumed point.now)) (text_at place journals.now))).released) }
+    ensures point { IfOk result (λ next. next ≡ point_of (fed (resumed point.now) (drop (at (resumed point.now)) (text_at place journals.now)))) }
 {
     let mut sequencer = Sequencer::resume(alloc, point)?;
-    let at = sequencer.at();
-    sequencer.feed(at, &text[at as usize..])?;
+    let end = journals.end_at(place);
+    feed(journals, place, &mut sequencer, end)?;
     drain(&mut sequencer, messages)?;
     sequencer.checkpoint()
 }
@@ -94,19 +90,19 @@ impl Reader {
     fn peek(
         &self,
         alloc: Global,
-        text: &[u8],
+        journals: &Journals,
         messages: &mut Messages,
     ) -> Result<Option<Next>, NoMemory>
-        requires read { IsRead self.now text.now }
-        requires short { length text.now ≤ 2 ^ 62 }
-        ensures next { IfOk result (λ next. next ≡ (reading text.now self.now).next) }
-        ensures messages { OnOk result (messages.new ≡ messages.old ++ news self.now text.now) }
+        requires { IsRead self.now (text_at self.now.place journals.now) }
+        ensures next { IfOk result (λ next. next ≡ (reading (text_at self.now.place journals.now) self.now).next) }
+        ensures messages { OnOk result (messages.new ≡ messages.old ++ news self.now (text_at self.now.place journals.now)) }
     {
-        let read = len_behind(self.from, text);
+        let end = journals.end_at(self.place);
+        let read = end.saturating_sub(self.from);
         if read <= self.read {
             return Ok(None);
         }
-        let point = resume(alloc, &self.point, text, messages)?;
+        let point = resume(alloc, &self.point, journals, self.place, messages)?;
         Ok(Some(Next { read, point }))
     }
 
@@ -115,15 +111,16 @@ impl Reader {
     pub fn read_on(
         self,
         alloc: Global,
-        text: &[u8],
+        journals: &Journals,
         messages: &mut Messages,
     ) -> Result<Reader, NoMemory>
-        requires read { IsRead self text.now }
-        requires short { length text.now ≤ 2 ^ 62 }
-        ensures reader { IfOk result (λ reader. reader ≡ reading text.now self) }
-        ensures messages { OnOk result (messages.new ≡ messages.old ++ news self text.now) }
+        requires { IsRead self (text_at self.place journals.now) }
+        ensures reader { IfOk result (λ reader. reader ≡ reading (text_at self.place journals.now) self) }
+        ensures messages { OnOk result (messages.new ≡ messages.old ++ news self (text_at self.place journals.now)) }
+        ensures short { length (text_at self.place journals.now) ≤ 2 ^ 62 }
     {
-        let next = self.peek(alloc, text, messages)?;
+        let _end = journals.end_at(self.place);
+        let next = self.peek(alloc, journals, messages)?;
         Ok(Reader { next, ..self })
     }
 
@@ -176,8 +173,7 @@ fn peek_all(alloc: Global, readers: &[Reader], journals: &Journals) -> Result<Me
 {
     let mut messages = Messages::new(alloc);
     for reader in readers {
-        let text = journals.text_at(reader.place);
-        let _next = reader.peek(alloc, text, &mut messages)?;
+        let _next = reader.peek(alloc, journals, &mut messages)?;
     }
     Ok(messages)
 }
@@ -212,8 +208,7 @@ impl Readers {
     {
         let mut readers = Vec::new(alloc);
         for reader in self.readers {
-            let text = journals.text_at(reader.place);
-            let reader = reader.read_on(alloc, text, messages)?;
+            let reader = reader.read_on(alloc, journals, messages)?;
             readers.push(reader)?;
         }
         Ok(Readers { readers })

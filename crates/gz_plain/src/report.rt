@@ -1,22 +1,25 @@
 //! What is told of journals and shards.
-ghost use Rattle.std.specs.Prelude.{◌≡◌, ◌≤◌, ◌^◌, length, map, IfOk};
+ghost use Rattle.std.specs.Prelude.{◌≡◌, map, IfOk};
 ghost use Rattle.gz_plain.specs.Reports.{count_committed as committed_in, is_none, report_of};
 ghost use Rattle.gz_plain.specs.Running.{AllKept, IsKept};
 ghost use Rattle.gz_plain.specs.Seen.{shard_of, shards_of};
 ghost use Rattle.gz_plain.specs.Shards.{untaken};
 
-use crate::journals::Journals;
+use crate::feed::feed_journal;
+use crate::journals::{Journal, Journals};
 use crate::reader::drain;
 use crate::shard::Shard;
 use gz_app::print_state;
 use gz_frame::Messages;
-use gz_label::{Blob, NoMemory};
+use gz_label::{Blob, Name, NoMemory};
 use gz_sequencer::Sequencer;
 use std::alloc::Global;
 
 /// What is told of a shard.
 #[derive(Debug, Drop)]
 pub struct ShardReport {
+    /// The shard's id.
+    pub id: Name,
     /// How many commits there are.
     pub commits: usize,
     /// How many messages they have read.
@@ -45,7 +48,9 @@ fn report(alloc: Global, shard: &Shard, journals: &Journals) -> Result<ShardRepo
 {
     let is_caught = is_caught(alloc, shard, journals)?;
     let store = print_state(alloc, &shard.store)?;
+    let id = shard.id.copy()?;
     Ok(ShardReport {
+        id,
         commits: shard.commits.len(),
         messages: shard.messages,
         is_caught,
@@ -72,13 +77,12 @@ pub fn report_all(
 }
 
 /// How many messages of a journal's text are committed.
-#[tactic(auto, using(crate::proofs::Reading::fed_released))]
-pub fn count_committed(alloc: Global, text: &[u8]) -> Result<usize, NoMemory>
-    requires { length text.now ≤ 2 ^ 62 }
-    ensures { IfOk result (λ count. count ≡ committed_in text.now) }
+#[tactic(auto, using(crate::proofs::Pieces::whole_text, crate::proofs::Reading::fed_released))]
+pub fn count_committed(alloc: Global, journal: &Journal) -> Result<usize, NoMemory>
+    ensures { IfOk result (λ count. count ≡ committed_in journal.now.text) }
 {
     let mut sequencer = Sequencer::new(alloc, 0);
-    sequencer.feed(0, text)?;
+    feed_journal(journal, &mut sequencer, journal.end())?;
     let mut messages = Messages::new(alloc);
     drain(&mut sequencer, &mut messages)?;
     Ok(messages.as_slice().len())

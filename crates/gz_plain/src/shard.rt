@@ -9,11 +9,12 @@ ghost use Rattle.gz_plain.specs.Seen.{shard_of};
 ghost use Rattle.gz_plain.specs.Shards.{has_room, journals_after, stepped, untaken};
 
 use crate::journals::Journals;
+use crate::past::Past;
 use crate::reader::Readers;
 use crate::writer::{Writer, write_commit};
 use gz_app::{App, AppKind, Outputs, State};
 use gz_frame::{Message, Messages};
-use gz_label::NoMemory;
+use gz_label::{Attempt, Name, NoMemory};
 use gz_uuid::Producer;
 use std::alloc::Global;
 use std::marker::Model;
@@ -32,9 +33,29 @@ impl Model for Offsets {
     ghost view = { λ a. a.offsets.items };
 }
 
+impl Offsets {
+    /// These offsets. It takes no memory.
+    pub fn new(offsets: Vec<u64>) -> Offsets
+        ensures { result ≡ offsets.items }
+    {
+        Offsets { offsets }
+    }
+
+    /// The offsets. It takes no memory.
+    pub fn as_slice(&self) -> &[u64]
+        ensures { result.now ≡ self.now }
+    {
+        self.offsets.as_slice()
+    }
+}
+
 /// What a shard keeps.
 #[derive(Drop)]
 pub struct Shard {
+    /// 1 to 32 letters, digits, `_` or `-`.
+    pub id: Name,
+    /// The prefix of its recovery log.
+    pub log: Name,
     /// The producer of its lines, with the last clock.
     pub producer: Producer,
     /// A reader for each source.
@@ -45,6 +66,8 @@ pub struct Shard {
     pub app: AppKind,
     /// Whether it takes no steps.
     pub is_disabled: bool,
+    /// What earlier definitions left it; none where it keeps the one that it began with.
+    pub past: Option<Past>,
     /// The offsets of its commits.
     pub commits: Vec<Offsets>,
     /// How many messages its commits have read.
@@ -80,7 +103,7 @@ fn consume(
 }
 
 /// The sum of the counts. More than 2^64 messages fit no memory.
-fn sum(count: u64, more: usize) -> Result<u64, NoMemory>
+pub fn sum(count: u64, more: usize) -> Result<u64, NoMemory>
     ensures { IfOk result (λ total. total ≡ count + more) }
 {
     match count.checked_add(more as u64) {
@@ -121,9 +144,9 @@ impl Shard {
         (count as u64) < u64::MAX - self.producer.last().value()
     }
 
-    #[tactic(auto, using(crate::proofs::Steps::few_out))]
     /// Takes the messages as one commit: the application consumes them, what it puts out is written as a transaction, and
     /// what was read counts.
+    #[tactic(auto, using(crate::proofs::Steps::few_out))]
     fn commit(
         self,
         alloc: Global,
@@ -138,27 +161,44 @@ impl Shard {
         ensures shard { IfOk result (λ shard. IsCommitted self messages.now shard) }
     {
         let Shard {
+            id,
+            log,
             mut producer,
             readers,
             writers,
             app,
             is_disabled,
+            past,
             mut commits,
             messages: count,
             mut store,
         } = self;
         let outputs = consume(alloc, app, messages, &mut store)?;
-        write_commit(alloc, &mut producer, &outputs, writers.as_slice(), journals)?;
+        let attempt = Attempt {
+            node: id.copy()?,
+            req: commits.len() as u64 + 1,
+        };
+        write_commit(
+            alloc,
+            &attempt,
+            &mut producer,
+            &outputs,
+            writers.as_slice(),
+            journals,
+        )?;
         let readers = readers.accept(alloc)?;
         let offsets = readers.ends(alloc)?;
         commits.push(Offsets { offsets })?;
         let messages = sum(count, messages.len())?;
         Ok(Shard {
+            id,
+            log,
             producer,
             readers,
             writers,
             app,
             is_disabled,
+            past,
             commits,
             messages,
             store,

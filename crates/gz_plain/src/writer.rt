@@ -10,7 +10,7 @@ ghost use Rattle.gz_plain.specs.Shards.{choice, written_to};
 use crate::journals::Journals;
 use gz_app::{Output, Outputs};
 use gz_frame::{Message, print_line};
-use gz_label::{Blob, Name, NoMemory};
+use gz_label::{Attempt, Blob, Name, NoMemory};
 use gz_uuid::{Flags, Parts, Producer};
 use std::alloc::Global;
 
@@ -136,13 +136,20 @@ fn empty_texts(alloc: Global, count: usize) -> Result<Vec<Blob>, NoMemory>
     Ok(texts)
 }
 
-/// Puts each text behind the journal at its writer's place.
-fn append_texts(writers: &[Writer], texts: &[Blob], journals: &mut Journals) -> Result<(), NoMemory>
-    requires { length texts.now ≡ length writers.now }
-    ensures { OnOk result (journals.new ≡ all_appended (places_of writers.now) texts.now journals.old) }
+/// Puts each text behind the journal at its writer's place, as an entry of this attempt.
+fn append_texts(
+    writers: &[Writer],
+    attempt: &Attempt,
+    texts: Vec<Blob>,
+    journals: &mut Journals,
+) -> Result<(), NoMemory>
+    requires { length texts.items ≡ length writers.now }
+    ensures { OnOk result (journals.new ≡ all_appended (places_of writers.now) texts.items journals.old) }
 {
-    for (i, writer) in writers.iter().enumerate() {
-        journals.append_at(writer.place, texts[i].as_slice())?;
+    let mut i = 0;
+    for text in texts {
+        journals.append_at(writers[i].place, attempt.copy()?, text)?;
+        i += 1;
     }
     Ok(())
 }
@@ -170,10 +177,12 @@ fn texts_of(
 }
 
 /// Writes a transaction: a CONTINUE line for each output, with the producer's next clock, into the journal that its
-/// key chooses, and behind the lines of each journal the ACK. After NoMemory neither is used again.
+/// key chooses, and behind the lines of each journal the ACK. Each journal gets its lines as one entry of this attempt.
+/// After NoMemory neither is used again.
 #[tactic(auto, using(crate::proofs::Places::written_places))]
 pub fn write_commit(
     alloc: Global,
+    attempt: &Attempt,
     producer: &mut Producer,
     outputs: &Outputs,
     writers: &[Writer],
@@ -188,6 +197,6 @@ pub fn write_commit(
     ensures producer { OnOk result (producer.new ≡ record producer.old { last = producer.old.last + length outputs.now + 1 }) }
 {
     let texts = texts_of(alloc, producer, outputs.as_slice(), writers.len())?;
-    append_texts(writers, texts.as_slice(), journals)?;
+    append_texts(writers, attempt, texts, journals)?;
     Ok(())
 }

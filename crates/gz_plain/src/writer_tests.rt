@@ -6,7 +6,7 @@ ghost use Rattle.gz_plain.specs.Journals.{place_of};
 use crate::journals::Journals;
 use crate::writer::{Writer, write_commit};
 use gz_app::{Output, Outputs};
-use gz_label::{Blob, Name, NoMemory};
+use gz_label::{Attempt, Blob, Name, NoMemory};
 use gz_uuid::{Producer, ProducerId};
 use std::alloc::Global;
 use std::test::Fail;
@@ -44,15 +44,29 @@ fn a_commit(rt: HostRuntime) -> Result<(), Fail> {
     let mut outputs = Outputs::new(alloc);
     outputs.push(output(alloc, "b", "1")?)?;
     let mut producer = Producer::new(ProducerId::shard(1).unwrap());
-    write_commit(alloc, &mut producer, &outputs, &writers, &mut journals)?;
+    let attempt = Attempt {
+        node: Name::of(alloc, "s")?,
+        req: 1,
+    };
+    write_commit(
+        alloc,
+        &attempt,
+        &mut producer,
+        &outputs,
+        &writers,
+        &mut journals,
+    )?;
     let line =
         "{\"key\":\"b\",\"uuid\":\"00000000-0000-1000-8400-050000000001\",\"value\":\"1\"}\n";
     let ack = "{\"key\":\"\",\"uuid\":\"00000000-0000-1000-8802-050000000001\",\"value\":\"\"}\n";
     let mut want = Blob::of(alloc, line.as_bytes())?;
     want.append(ack.as_bytes())?;
-    assert_eq!(rt; journals.text_at(0), want.as_slice());
-    assert!(rt; journals.text_at(1).is_empty());
-    assert!(rt; journals.text_at(2).is_empty());
+    let journal = journals.get(0).ok_or("a journal")?;
+    let text = journal.read_at(0, 1000)?;
+    assert_eq!(rt; text.as_slice(), want.as_slice());
+    assert_eq!(rt; journals.end_at(0), want.len() as u64);
+    assert_eq!(rt; journals.end_at(1), 0);
+    assert_eq!(rt; journals.end_at(2), 0);
     assert_eq!(rt; producer.last().value(), 2);
     Ok(())
 }

@@ -6,4 +6,4 @@ pub returns-clause-stays : goal.returns-clause-stays
 returns-clause-stays c = λ rank w order. settled_stays rank w order
 
 pub returns-clause-rests : goal.returns-clause-rests
-returns-clause-rests c = λ names ds es rank defined fits lawful order. all_rest_after names ds es rank defined fits lawful order
+returns-clause-rests c = λ es rank may order. all_rest_after es rank may order

@@ -1,4 +1,4 @@
-use Rattle.std.proofs.Common.{◌≡◌, ◌++◌, length, List, []}
+use Rattle.std.proofs.Common.{◌≡◌, ◌++◌, length, []}
 use Rattle.gz_plain.proofs.reader.drain.Given as goal
 
 abbrev pub invariant-released : goal.invariant-released

@@ -5,4 +5,4 @@ use Rattle.gz_plain.proofs.writer.write_commit.Goals as goal
 
 pub append_texts-requires : goal.append_texts-requires
 append_texts-requires c =
-    ap (λ (texts : List (List ℕ)). length texts) (c.as_slice-2.ensures.value ∙ c.in_ok-texts.ensures.texts) ∙ length_texts _ _ _ _ _
+    ap (λ (texts : List (List ℕ)). length texts) c.in_ok-texts.ensures.texts ∙ length_texts _ _ _ _ _

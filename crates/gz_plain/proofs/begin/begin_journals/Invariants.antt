@@ -1,6 +1,0 @@
-use Rattle.std.proofs.Common.{◌≡◌, ◌++◌}
-use Rattle.gz_plain.specs.Runs.{all_empty}
-use Rattle.gz_plain.proofs.begin.begin_journals.Given as goal
-
-abbrev pub invariant-loop-name : goal.invariant-loop-name
-invariant-loop-name l = l.journals ++ all_empty l.name-iterator.rest.items ≡ all_empty l.fn.names.items
