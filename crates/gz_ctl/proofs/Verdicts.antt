@@ -7,6 +7,7 @@ use Rattle.gz_base.specs.declared.exit.Exit.{Exit}
 use Rattle.gz_base.specs.declared.exit.Exit.TheVariants.{Done, Usage, BadInput, ReadFault, WriteFault, FileFault, PeerFault, Refused, Lost, NoMemory, Mismatch, HistoryFull, SpawnFault, BadPeer}
 use Rattle.gz_scenario.specs.declared.error.ScenarioError.{ScenarioError}
 use Rattle.gz_world.specs.Worlds.{World, settled}
+use Rattle.gz_world.specs.Report.{report_of}
 use Rattle.gz_world.specs.Run.{outcome_from, refusal_line}
 use Rattle.gz_world.specs.Told.{HasOutcome}
 use Rattle.gz_plain.specs.Promise.{AllExactlyOnce}
@@ -153,6 +154,10 @@ verdict_complete result exit text left rest faults risen wrote has v (inl is) fa
 verdict_complete result exit text left rest faults risen wrote has v (inr is) fault = inr (inr (inr (fault is)))
 
 -- ---- what a replay comes to
+
+pub report_is : (left : Option (List ℕ)) (w : World) (text : List ℕ) → HasOutcome left (Ok (Some w)) → text ≡ report_of w → IsReport left text
+report_is None w text has is = tt
+report_is (Some input) w text has is = (Some w, has, is)
 
 pub refusal_is : (left : Option (List ℕ)) (refusal : ScenarioError) (text : List ℕ) → HasOutcome left (Err refusal) → text ≡ refusal_line refusal → IsRefusal left text
 refusal_is None refusal text outcome is = tt

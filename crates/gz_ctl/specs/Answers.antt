@@ -39,9 +39,10 @@ IsText true input risen text = IsReplayText input risen text
 abbrev pub WritesFront : Bool → Option (List ℕ) → Type 0 → Option (List ℕ) → Option (List ℕ) → Type 0
 WritesFront command input risen old new = (text : List ℕ) × IsText command input risen text × AppendsFront old new text
 
--- The promise: after each front of the lines, each of the run's shards has taken each committed message of its sources
--- once and in order, and readers of its outputs accept what its application puts out for them. And a settle then ends
--- with each shard at rest: it is disabled, has no clocks left, or has read all that its sources have committed.
+-- The promise: after each front of the lines, each of the run's shards that kept the definition that it began with has
+-- taken each committed message of its sources once and in order, and readers of its outputs accept what its application
+-- puts out for them. And a settle then ends with each of them at rest: it is disabled, has no clocks left, or has read all
+-- that its sources have committed.
 abbrev pub KeepsPromise : Option (List ℕ) → Type 0
 KeepsPromise None = ⊤
 KeepsPromise (Some input) =

@@ -1,22 +1,21 @@
--- What a cluster begins with is small.
+-- Definitions by specifications are small.
 use Rattle.std.proofs.Common.{◌≡◌, ◌&&◌, ℕ, ◌+◌, ◌<◌, ◌≤◌, ◌^◌, List, [], ◌∷◌, ◌++◌, suc, length, map, nat_le, refl, ap, ◌∙◌, sym, drop, get_or, drop-cons, append_assoc, Bool, true, false, arith}
 use Rattle.std.specs.Prelude.{IsTrue}
 use Rattle.std.specs.List.{list_all}
 use Rattle.std.proofs.lemmas.Grind.{common_steps}
 use Rattle.gz_spec.specs.Names.{is_journal_name}
-use Rattle.gz_spec.specs.Valid.{is_between, is_source, is_shard, are_specs}
+use Rattle.gz_spec.specs.Valid.{is_between, is_source, is_shard}
 use Rattle.gz_spec.specs.declared.source.SourceSpec.{SourceSpec}
 use Rattle.gz_spec.specs.declared.shard.ShardSpec.{ShardSpec}
-use Rattle.gz_spec.specs.declared.cluster.Specs.{Specs}
 use Rattle.gz_plain.specs.declared.cluster.Definition.{Definition}
 use Rattle.gz_plain.specs.declared.cluster.Source.{Source}
-use Rattle.gz_plain.specs.Runs as plain
+use Rattle.gz_plain.specs.Definitions as plain
 use Rattle.gz_plain.specs.Sources as shards
 use Rattle.gz_plain.specs.Cluster.{AreSmallSources, AreSmall, source_named, definition_of, definitions_of as definitions_seen}
 use Rattle.gz_world.specs.Starts as starts
-use Rattle.gz_world.specs.Starts.{source_of, defined, definitions_of}
+use Rattle.gz_world.specs.Starts.{source_of, defined}
 use Rattle.gz_world.proofs.Order.{is_shard_entry}
-use Rattle.gz_world.proofs.Good.{and_parts, are_good, few_definitions}
+use Rattle.gz_world.proofs.Good.{and_parts}
 
 at_most : (n m : ℕ) → nat_le n m ≡ true → n ≤ m
 at_most n m is = grind (arith, common_steps)
@@ -44,16 +43,9 @@ pub small_more : (ds : List Definition) (d : Definition) → AreSmall ds → Are
 small_more [] d small least = (least, tt)
 small_more (e ∷ ds) d small least = (small.0, small_more ds d small.1 least)
 
-seen_count : (ds : List Definition) → length (definitions_seen ds) ≡ length ds
+pub seen_count : (ds : List Definition) → length (definitions_seen ds) ≡ length ds
 seen_count [] = refl
 seen_count (d ∷ ds) = ap (λ (n : ℕ). suc n) (seen_count ds)
-
--- few shards begin
-pub few_begin : (specs : Specs) (ds : List Definition) → are_specs specs ≡ true → definitions_seen ds ≡ definitions_of specs.shards → 1 + length ds < 1099511627776
-few_begin specs ds valid same =
-    let few = few_definitions specs.shards (are_good specs valid) in
-    let count : length ds ≡ length (definitions_of specs.shards) = sym (seen_count ds) ∙ ap (λ (xs : List _). length xs) same in
-    omega (arith, few, count)
 
 -- ---- the next source
 

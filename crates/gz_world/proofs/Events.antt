@@ -1,13 +1,23 @@
--- What the events of a run do to the journals and shards.
+-- What the events of a run do: its journals and shards stay tied to its specifications.
 use Rattle.std.proofs.Common.{◌≡◌, ℕ, zero, suc, ◌+◌, ◌<◌, ◌≤◌, ◌^◌, ◌&&◌, List, [], ◌∷◌, ◌++◌, length, map, filter, nat_le, refl, ap, sym, subst, cond, All, Bool, true, false, Option, Some, None, Result, Ok, Err, arith}
 use Rattle.std.specs.Prelude.{⊤}
+use Rattle.std.specs.List.{list_all}
+use Rattle.std.proofs.lemmas.Bool.{and_parts, and_from}
 use Rattle.std.proofs.lemmas.Grind.{common_steps}
 use Rattle.gz_model.specs.Steps.{◌>>=◌}
 use Rattle.gz_uuid.specs.Producer.{AreProducer, client_octets}
-use Rattle.gz_frame.specs.Messages.{Message, is_message, ack_txn}
+use Rattle.gz_frame.specs.Messages.{max_key, max_value, is_text_within, ack_txn}
 use Rattle.gz_frame.proofs.Lines.{lawful_line_reads_back}
+use Rattle.gz_spec.specs.Names.{is_id, is_journal_name}
+use Rattle.gz_spec.specs.Joins.{join_of}
+use Rattle.gz_spec.specs.Valid.{are_specs}
 use Rattle.gz_spec.specs.declared.cluster.Specs.{Specs}
-use Rattle.gz_scenario.specs.Events.{event_of, max_clock}
+use Rattle.gz_spec.specs.declared.error.SpecError.{SpecError}
+use Rattle.gz_registry.specs.Registered.{Registered, put_answer}
+use Rattle.gz_registry.specs.declared.error.RegistryError.{RegistryError}
+use Rattle.gz_scenario.specs.Events.{event_of, max_clock, max_producer}
+use Rattle.gz_scenario.specs.Lawful.{is_draft, is_publish, is_event}
+use Rattle.gz_scenario.proofs.Accepted.{event_good}
 use Rattle.gz_scenario.specs.declared.error.ScenarioError.{ScenarioError}
 use Rattle.gz_scenario.specs.declared.error.ScenarioError.TheVariants.{Limit}
 use Rattle.gz_scenario.specs.declared.event.Flag.{Flag}
@@ -15,14 +25,16 @@ use Rattle.gz_scenario.specs.declared.event.Flag.TheVariants.{Outside, Continue,
 use Rattle.gz_scenario.specs.declared.event.Draft.{Draft}
 use Rattle.gz_scenario.specs.declared.event.Publish.{Publish as Published}
 use Rattle.gz_scenario.specs.declared.event.Event.{Event}
-use Rattle.gz_scenario.specs.declared.event.Event.TheVariants.{Specs as Begins, Publish, Settle}
+use Rattle.gz_scenario.specs.declared.event.Event.TheVariants.{Specs as Begins, Publish, Settle, Apply, Join as Joins, Expire}
 use Rattle.gz_plain.specs.Runs as plain
 use Rattle.gz_plain.specs.Shards as shards
 use Rattle.gz_world.specs.declared.reply.Answer.{Answer}
 use Rattle.gz_world.specs.declared.reply.Answer.TheVariants.{Landed, TooLarge, NotFramed}
 use Rattle.gz_world.specs.declared.reply.Reason.{Reason}
-use Rattle.gz_world.specs.Worlds.{World, flags_of, message_at, messages_at, is_sound, content_of, judged_publish, published, after, settled}
+use Rattle.gz_world.specs.Worlds.{World, flags_of, message_at, messages_at, content_of, judged_publish, landed, published, registered, judged_joined, with_specs, judged_join, judged_expire, with_registry, after}
 use Rattle.gz_world.specs.Run.{max_input, judged, run}
+use Rattle.gz_world.proofs.Ready.{apply_valid, landed_specified, settled_specified}
+use Rattle.gz_world.proofs.Tied.{IsTied, happens, with_tied}
 
 -- ---- messages of clients
 
@@ -38,10 +50,6 @@ octets_fit n (suc (suc (suc (suc (suc (suc i)))))) d within = absurd (omega arit
 are_producer : (n : ℕ) → AreProducer (client_octets n)
 are_producer n = record { six = refl; multicast = refl }
 
-and_parts : (a b : Bool) → (a && b) ≡ true → (a ≡ true) × (b ≡ true)
-and_parts true b is = (refl, is)
-and_parts false b is = absurd (cc)
-
 at_most : (n m : ℕ) → nat_le n m ≡ true → n ≤ m
 at_most n m is = grind (arith, common_steps)
 
@@ -50,56 +58,79 @@ flags_few Outside = omega arith
 flags_few Continue = omega arith
 flags_few Ack = omega arith
 
--- the line of a sound message is read back
-is_line : (number : ℕ) (d : Draft) → is_sound (message_at (client_octets number) d) ≡ true → plain.IsLine (message_at (client_octets number) d)
-unfolding is_sound
-is_line number d sound =
-    let m = message_at (client_octets number) d in
-    let parts = and_parts (is_message m) (nat_le m.clock max_clock) sound in
-    let least : d.clock ≤ max_clock = at_most d.clock max_clock parts.1 in
-    lawful_line_reads_back m parts.0 (record { octets = are_producer number; clock_fits = omega (arith, least); flags_fit = flags_few d.flag }) (octets_fit number)
+flags_known : (f : Flag) → nat_le (flags_of f) ack_txn ≡ true
+flags_known Outside = refl
+flags_known Continue = refl
+flags_known Ack = refl
 
-one_client : (b : Bool) (number : ℕ) (d : Draft) (ms : List Message) → is_sound (message_at (client_octets number) d) ≡ b → plain.AreClients ms
-    → plain.AreClients (cond b (message_at (client_octets number) d ∷ ms) ms)
-one_client true number d ms sound clients = (is_line number d sound, (number, refl), clients)
-one_client false number d ms sound clients = clients
+-- the line of a lawful draft is read back
+is_line : (number : ℕ) (d : Draft) → is_draft d ≡ true → plain.IsLine (message_at (client_octets number) d)
+is_line number d lawful =
+    let clock = nat_le d.clock max_clock in
+    let key = is_text_within max_key d.key in
+    let value = is_text_within max_value d.value in
+    let parts = and_parts (clock && key) value lawful in
+    let front = and_parts clock key parts.0 in
+    let least : d.clock ≤ max_clock = at_most d.clock max_clock front.0 in
+    let texts = and_from key value front.1 parts.1 in
+    lawful_line_reads_back (message_at (client_octets number) d)
+    (and_from (key && value) (nat_le (flags_of d.flag) ack_txn) texts (flags_known d.flag))
+    (record { octets = are_producer number; clock_fits = omega (arith, least); flags_fit = flags_few d.flag })
+    (octets_fit number)
 
-are_clients : (number : ℕ) (ds : List Draft) → plain.AreClients (messages_at (client_octets number) ds)
-are_clients number [] = tt
-are_clients number (d ∷ ds) = one_client (is_sound (message_at (client_octets number) d)) number d (messages_at (client_octets number) ds) refl (are_clients number ds)
+are_clients : (number : ℕ) (ds : List Draft) → list_all is_draft ds ≡ true → plain.AreClients (messages_at (client_octets number) ds)
+are_clients number [] lawful = tt
+are_clients number (d ∷ ds) lawful =
+    let parts = and_parts (is_draft d) (list_all is_draft ds) lawful in
+    (is_line number d parts.0, (number, refl), are_clients number ds parts.1)
+
+drafts_of : (p : Published) → is_publish p ≡ true → list_all is_draft p.messages ≡ true
+unfolding is_publish
+drafts_of p lawful =
+    let known = nat_le p.producer max_producer in
+    let drafts = list_all is_draft p.messages in
+    let front = is_id p.client && is_journal_name p.journal && nat_le 1 (length p.messages) in
+    (and_parts front drafts (and_parts (front && drafts) known lawful).0).1
 
 -- ---- one event
 
--- What becomes of the journals and shards is what some lawful happenings make of them.
-pub record Leads (w v : World) : Type 0 where
-  pub happenings : List plain.Event
-  pub lawful : plain.AreLawful happenings
-  pub reached : v.cluster ≡ plain.after_events happenings w.cluster
-  pub specs : v.specs ≡ w.specs
+landed_tied : (specs : Specs) (w : shards.World) (answer : Answer) (p : Published) → list_all is_draft p.messages ≡ true → IsTied specs w
+    → IsTied specs (record w { journals = landed answer p.journal (content_of p) w.journals })
+landed_tied specs w (Landed begin end) p drafts t =
+    happens specs specs w (plain.lands p.journal (messages_at (client_octets p.producer) p.messages)) t (are_clients p.producer p.messages drafts)
+    (landed_specified specs w (Landed begin end) p.journal (content_of p) t.specified) t.ranked
+landed_tied specs w TooLarge p drafts t = record { specified = t.specified; ranked = t.ranked; happened = t.happened; may = t.may; reached = t.reached }
+landed_tied specs w NotFramed p drafts t = record { specified = t.specified; ranked = t.ranked; happened = t.happened; may = t.may; reached = t.reached }
 
-answer_leads : (line : ℕ) (p : Published) (w v : World) (answer : Answer) → Leads (published line p w (Ok answer)) v → Leads w v
-answer_leads line p w v (Landed begin end) l = record {
-  happenings = plain.lands p.journal (messages_at (client_octets p.producer) p.messages) ∷ l.happenings;
-  lawful = (are_clients p.producer p.messages, l.lawful);
-  reached = l.reached;
-  specs = l.specs;
-}
-answer_leads line p w v TooLarge l = record { happenings = l.happenings; lawful = l.lawful; reached = l.reached; specs = l.specs }
-answer_leads line p w v NotFramed l = record { happenings = l.happenings; lawful = l.lawful; reached = l.reached; specs = l.specs }
+publish_tied : (line : ℕ) (p : Published) (w : World) (r : Result Answer Reason) → list_all is_draft p.messages ≡ true → IsTied w.specs w.cluster
+    → IsTied (published line p w r).specs (published line p w r).cluster
+publish_tied line p w (Ok answer) drafts t = landed_tied w.specs w.cluster answer p drafts t
+publish_tied line p w (Err reason) drafts t = t
 
-publish_leads : (line : ℕ) (p : Published) (w v : World) (r : Result Answer Reason) → Leads (published line p w r) v → Leads w v
-publish_leads line p w v (Ok answer) l = answer_leads line p w v answer l
-publish_leads line p w v (Err reason) l = record { happenings = l.happenings; lawful = l.lawful; reached = l.reached; specs = l.specs }
+settle_tied : (specs : Specs) (w : shards.World) → IsTied specs w → IsTied specs (shards.settled w)
+settle_tied specs w t = happens specs specs w plain.settles t tt (settled_specified specs w t.specified) t.ranked
 
-event_leads : (line : ℕ) (e : Event) (w v : World) → Leads (after line e w) v → Leads w v
-event_leads line (Begins specs) w v l = l
-event_leads line (Publish p) w v l = publish_leads line p w v (judged_publish w p) l
-event_leads line Settle w v l = record {
-  happenings = plain.settles ∷ l.happenings;
-  lawful = l.lawful;
-  reached = l.reached;
-  specs = l.specs;
-}
+put_tied : (line : ℕ) (more all : Specs) (w : World) (r : Result ℕ RegistryError) → are_specs more ≡ true → join_of w.specs more ≡ Ok all → IsTied w.specs w.cluster
+    → IsTied (with_specs line more w (registered all r)).specs (with_specs line more w (registered all r)).cluster
+put_tied line more all w (Ok revision) good is t = with_tied w.specs more all w.cluster t good is
+put_tied line more all w (Err e) good is t = t
+
+join_tied : (line : ℕ) (more : Specs) (w : World) (r : Result Specs SpecError) → are_specs more ≡ true → join_of w.specs more ≡ r → IsTied w.specs w.cluster
+    → IsTied (with_specs line more w (judged_joined more w r)).specs (with_specs line more w (judged_joined more w r)).cluster
+join_tied line more w (Ok all) good is t = put_tied line more all w (put_answer more w.registry) good is t
+join_tied line more w (Err e) good is t = t
+
+registry_tied : (line : ℕ) (w : World) (r : Result Registered Reason) → IsTied w.specs w.cluster → IsTied (with_registry line w r).specs (with_registry line w r).cluster
+registry_tied line w (Ok registry) t = t
+registry_tied line w (Err reason) t = t
+
+event_tied : (line : ℕ) (e : Event) (w : World) → is_event e ≡ true → IsTied w.specs w.cluster → IsTied (after line e w).specs (after line e w).cluster
+event_tied line (Begins specs) w lawful t = t
+event_tied line (Publish p) w lawful t = publish_tied line p w (judged_publish w p) (drafts_of p lawful) t
+event_tied line Settle w lawful t = settle_tied w.specs w.cluster t
+event_tied line (Apply more) w lawful t = join_tied line more w (join_of w.specs more) (apply_valid more lawful) refl t
+event_tied line (Joins j) w lawful t = registry_tied line w (judged_join w j) t
+event_tied line (Expire name) w lawful t = registry_tied line w (judged_expire w name) t
 
 -- ---- all lines
 
@@ -115,17 +146,17 @@ passed : {A : Type 0} (t : Bool) (r : Result A ScenarioError) (e : ScenarioError
 passed true r e a is = is
 passed false r e a is = absurd (cc)
 
-line_leads : (number before : ℕ) (line : List ℕ) (w u v : World) → judged number before line w ≡ Ok u → Leads u v → Leads w v
-line_leads number before line w u v is l =
+abbrev pub IsRun : World → Type 0
+IsRun w = IsTied w.specs w.cluster
+
+line_tied : (number before : ℕ) (line : List ℕ) (w u : World) → judged number before line w ≡ Ok u → IsRun w → IsRun u
+line_tied number before line w u is t =
     let said = passed (nat_le (before + length line) max_input) (event_of number line >>= λ e. Ok (after number e w)) (Limit number) u is in
     let s = step (event_of number line) (λ e. Ok (after number e w)) u said in
-    event_leads number s.0 w v (subst (λ (x : World). Leads x v) (sym (same_ok (after number s.0 w) u s.2)) l)
+    subst (λ (x : World). IsRun x) (same_ok (after number s.0 w) u s.2) (event_tied number s.0 w (event_good number line s.0 s.1) t)
 
-none_leads : (w : World) → Leads w w
-none_leads w = record { happenings = []; lawful = tt; reached = refl; specs = refl }
-
-pub run_leads : (lines : List (List ℕ)) (number before : ℕ) (w v : World) → run lines number before w ≡ Ok v → Leads w v
-run_leads [] number before w v is = subst (λ (x : World). Leads w x) (same_ok w v is) (none_leads w)
-run_leads (line ∷ lines) number before w v is =
+pub run_tied : (lines : List (List ℕ)) (number before : ℕ) (w v : World) → run lines number before w ≡ Ok v → IsRun w → IsRun v
+run_tied [] number before w v is t = subst (λ (x : World). IsRun x) (same_ok w v is) t
+run_tied (line ∷ lines) number before w v is t =
     let s = step (judged number before line w) (λ next. run lines (number + 1) (before + length line) next) v is in
-    line_leads number before line w s.0 v s.1 (run_leads lines (number + 1) (before + length line) s.0 v s.2)
+    run_tied lines (number + 1) (before + length line) s.0 v s.2 (line_tied number before line w s.0 s.1 t)

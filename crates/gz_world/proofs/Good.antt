@@ -39,5 +39,5 @@ distinct_names specs valid =
     let b = and_parts (nat_le (length specs.journals) 1024) (list_all is_journal specs.journals && are_fresh name_of_journal [] specs.journals) a.0 in
     distinct_fresh [] specs.journals (and_parts (list_all is_journal specs.journals) (are_fresh name_of_journal [] specs.journals) b.1).1
 
-pub few_definitions : (ss : List ShardSpec) → AreGood ss → 1 + length (definitions_of ss) < 2 ^ 40
+pub few_definitions : (ss : List ShardSpec) → AreGood ss → length (definitions_of ss) ≤ 256
 few_definitions ss good = let n = definitions_count ss good.fresh in let few = good.few in omega (arith, n, few)

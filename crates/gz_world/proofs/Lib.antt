@@ -3,7 +3,13 @@ pub mod Used
 pub mod Wired
 pub mod Good
 pub mod Begun
+pub mod Joined
+pub mod Ids
 pub mod Outputs
+pub mod Defined
+pub mod Changes
+pub mod Ready
+pub mod Tied
 pub mod Texts
 pub mod Lines
 pub mod Events

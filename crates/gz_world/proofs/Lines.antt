@@ -15,10 +15,8 @@ use Rattle.gz_scenario.specs.Refusals.{on_line}
 use Rattle.gz_scenario.specs.declared.error.ScenarioError.{ScenarioError}
 use Rattle.gz_scenario.specs.declared.error.ScenarioError.TheVariants.{Limit, NotJson, Unknown, BadField, NoMemory}
 use Rattle.gz_scenario.specs.declared.event.Event.{Event}
-use Rattle.gz_scenario.specs.declared.event.Event.TheVariants.{Specs, Publish, Settle}
+use Rattle.gz_scenario.specs.declared.event.Event.TheVariants.{Specs}
 use Rattle.gz_model.specs.Steps.{◌>>=◌}
-use Rattle.gz_spec.specs.Valid.{are_specs}
-use Rattle.gz_spec.proofs.Whole.{read_is_valid}
 use Rattle.gz_world.specs.Worlds.{World, after}
 use Rattle.gz_world.specs.Run.{max_input, started, judged, judged_first}
 use Rattle.gz_world.specs.Replays.{refused_or, Fails}
@@ -108,7 +106,3 @@ first_within line (Err e) w said is = absurd (cc)
 
 pub first_short : (line : List ℕ) (w : World) → judged_first line ≡ Ok w → length line ≤ 134217728
 first_short line w is = first_within line (event_of 1 line) w refl is
-
--- the specifications that start a world are valid
-pub begun_valid : (line : List ℕ) (specs : SpecLists) → event_of 1 line ≡ Ok (Specs specs) → are_specs specs ≡ true
-begun_valid line specs is = read_is_valid line specs (specs_said line specs is)

@@ -1,4 +1,4 @@
--- The outputs of a shard that may be read: none is named twice, and each is a journal.
+-- The sources and outputs of a shard that may be read: each is a journal, and no output is named twice.
 use Rattle.std.proofs.Common.{◌≡◌, ◌&&◌, ℕ, List, [], ◌∷◌, length, map, filter, nat_le, refl, sym, ap, subst, ◌∙◌, cond, is_lt, Bool, true, false, Option, Some, None, Ordering, Less, Equal, Greater}
 use Rattle.std.specs.Prelude.{⊤, codes}
 use Rattle.std.specs.List.{list_all}
@@ -14,11 +14,14 @@ use Rattle.gz_spec.specs.Specs.{name_of_journal}
 use Rattle.gz_spec.specs.Valid.{is_between, are_sources, are_shard_labels, is_shard}
 use Rattle.gz_spec.specs.declared.framing.Framing.{Framing}
 use Rattle.gz_spec.specs.declared.journal.JournalSpec.{JournalSpec}
+use Rattle.gz_spec.specs.declared.source.SourceSpec.{SourceSpec}
 use Rattle.gz_spec.specs.declared.shard.ShardSpec.{ShardSpec}
 use Rattle.gz_plain.specs.Journals.{Journal, is_journal}
 use Rattle.gz_plain.specs.Order.{Apart}
+use Rattle.gz_plain.specs.Running.{journals_of}
 use Rattle.gz_plain.specs.Runs.{Distinct, ArePresent, all_empty}
 use Rattle.gz_plain.proofs.Starts.{unequal}
+use Rattle.gz_world.specs.Starts.{source_of}
 
 -- ---- labels of one name
 
@@ -86,19 +89,26 @@ distinct_outputs s good =
 
 -- ---- journals
 
-present_if : (j : JournalSpec) (js : List JournalSpec) (name : List ℕ) (b : Bool) → bytes_eq j.name name ≡ b
-    → (is_lines (held js name) ≡ true → is_journal name (all_empty (map name_of_journal js)) ≡ true)
-    → is_lines (cond b (Some (framing_in j.labels)) (held js name)) ≡ true → is_journal name (all_empty (map name_of_journal (j ∷ js))) ≡ true
-present_if j js name true is rest lines = rw is refl
-present_if j js name false is rest lines = rw is (rest lines)
+present_if : (t : Option Framing → Bool) (j : JournalSpec) (js : List JournalSpec) (name : List ℕ) (b : Bool) → bytes_eq j.name name ≡ b
+    → (t (held js name) ≡ true → is_journal name (all_empty (map name_of_journal js)) ≡ true)
+    → t (cond b (Some (framing_in j.labels)) (held js name)) ≡ true → is_journal name (all_empty (map name_of_journal (j ∷ js))) ≡ true
+present_if t j js name true is rest good = rw is refl
+present_if t j js name false is rest good = rw is (rest good)
 
--- a journal of lines is a journal
-is_present : (js : List JournalSpec) (name : List ℕ) → is_lines (held js name) ≡ true → is_journal name (all_empty (map name_of_journal js)) ≡ true
-is_present [] name lines = absurd (cc)
-is_present (j ∷ js) name lines = present_if j js name (bytes_eq j.name name) refl (is_present js name) lines
+-- a journal that holds what is wanted is a journal
+pub is_present : (t : Option Framing → Bool) → t None ≡ false → (js : List JournalSpec) (name : List ℕ) → t (held js name) ≡ true → is_journal name (all_empty (map name_of_journal js)) ≡ true
+is_present t none [] name good = absurd (cc)
+is_present t none (j ∷ js) name good = present_if t j js name (bytes_eq j.name name) refl (is_present t none js name) good
 
 pub are_present : (js : List JournalSpec) (names : List (List ℕ)) → list_all (λ o. is_lines (held js o)) names ≡ true → ArePresent names (all_empty (map name_of_journal js))
 are_present js [] all = tt
 are_present js (n ∷ names) all =
     let parts = and_parts (is_lines (held js n)) (list_all (λ o. is_lines (held js o)) names) all in
-    (is_present js n parts.0, are_present js names parts.1)
+    (is_present is_lines refl js n parts.0, are_present js names parts.1)
+
+pub sources_present : (js : List JournalSpec) (us : List SourceSpec) → list_all (λ u. is_readable (held js u.journal)) us ≡ true
+    → ArePresent (journals_of (map source_of us)) (all_empty (map name_of_journal js))
+sources_present js [] all = tt
+sources_present js (u ∷ us) all =
+    let parts = and_parts (is_readable (held js u.journal)) (list_all (λ v. is_readable (held js v.journal)) us) all in
+    (is_present is_readable refl js u.journal parts.0, sources_present js us parts.1)

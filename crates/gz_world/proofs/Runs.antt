@@ -15,6 +15,12 @@ goes_refused None now line w refusal takes judged runs = tt
 goes_refused (Some all) None line w refusal takes judged runs = elim takes [ ]
 goes_refused (Some all) (Some now) line w refusal takes judged runs = rw (takes, judged, runs) refl
 
+-- the first line starts a world, and the others make another of it
+pub goes_done : (all now : Option (List ℕ)) (line : List ℕ) (w v : World) → TakesLine all now line → judged_first line ≡ Ok w → RunsTo now (length line) w (Ok v) → HasOutcome all (Ok (Some v))
+goes_done None now line w v takes judged runs = tt
+goes_done (Some all) None line w v takes judged runs = elim takes [ ]
+goes_done (Some all) (Some now) line w v takes judged runs = rw (takes, judged, runs) refl
+
 -- nothing is read before the first line
 pub nothing_read : (left : Option (List ℕ)) (outcome : Result (Option World) ScenarioError) → HasOutcome (ahead [] left) outcome → HasOutcome left outcome
 nothing_read None outcome has = tt

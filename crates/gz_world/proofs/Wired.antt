@@ -1,5 +1,5 @@
--- How the shards of a world that begins are wired: each journal's writers come before its readers.
-use Rattle.std.proofs.Common.{◌≡◌, ◌⊎◌, inl, inr, ◌&&◌, ◌||◌, ℕ, zero, suc, ◌+◌, ◌-◌, ◌*◌, ◌<◌, ◌≤◌, ◌^◌, List, [], ◌∷◌, ◌++◌, length, map, get_or, nat_le, refl, sym, ap, ◌∙◌, subst, cond, not, Bool, true, false, Ordering, Less, Equal, Greater, arith}
+-- How shards are wired: each journal's writers come before its readers.
+use Rattle.std.proofs.Common.{◌≡◌, ◌⊎◌, inl, inr, ◌&&◌, ◌||◌, ℕ, suc, ◌+◌, ◌<◌, List, [], ◌∷◌, ◌++◌, length, map, refl, sym, ap, ◌∙◌, subst, cond, not, Bool, true, false, Ordering, Less, Equal, Greater, arith}
 use Rattle.std.specs.Prelude.{⊤}
 use Rattle.std.specs.List.{list_any, IsAmong}
 use Rattle.std.specs.Str.{bytes_eq}
@@ -8,7 +8,6 @@ use Rattle.std.specs.Cmp.Lexicographic.{slice_cmp}
 use Rattle.std.specs.BTreeMap.{insert_entry}
 use Rattle.std.proofs.lemmas.Map.Text.{is_eq-slice_cmp}
 use Rattle.std.proofs.lemmas.Slice.Eq.{bytes_eq-Decides}
-use Rattle.gz_uuid.specs.Producer.{shard_octets}
 use Rattle.gz_spec.specs.Cycles.{feeds, AreRanked}
 use Rattle.gz_spec.specs.Links.{outputs_of}
 use Rattle.gz_spec.specs.Lists.{is_used}
@@ -16,8 +15,10 @@ use Rattle.gz_spec.specs.Specs.{id_of_shard}
 use Rattle.gz_spec.specs.Valid.{are_fresh}
 use Rattle.gz_spec.specs.declared.source.SourceSpec.{SourceSpec}
 use Rattle.gz_spec.specs.declared.shard.ShardSpec.{ShardSpec}
-use Rattle.gz_plain.specs.Order.{Wiring, wirings_of, Apart, IsBeside, IsBefore, AreBefore, AllBefore, AllBelow, AreInOrder}
-use Rattle.gz_plain.specs.Runs.{Definition, fresh, all_fresh}
+use Rattle.gz_plain.specs.Definitions as plain
+use Rattle.gz_plain.specs.Definitions.{Definition}
+use Rattle.gz_plain.specs.Order.{Wiring, wiring_of, wirings_of, Apart, IsBeside, AreBefore, AllBefore, AllBelow, AreInOrder}
+use Rattle.gz_plain.specs.Shards.{Shard}
 use Rattle.gz_plain.proofs.Starts.{unequal}
 use Rattle.gz_world.specs.Starts.{source_of, definition_of, defined, put_shards, in_id_order, definitions_of}
 use Rattle.gz_world.proofs.Order.{Shards, Each, each_in_order}
@@ -89,61 +90,15 @@ pub each_among : (ss : List ShardSpec) → Each (IsAmong ss) ss
 each_among [] = tt
 each_among (s ∷ ss) = (among_first s ss, each_more s ss ss (each_among ss))
 
--- ---- places in the order
+-- ---- how shards are wired
 
-octet_at : List ℕ → ℕ → ℕ
-octet_at xs i = get_or xs i 0
+-- how a shard of this definition is wired
+abbrev wiring_said : Definition → Wiring
+wiring_said d = record { id = d.id; sources = d.sources; outputs = d.outputs }
 
--- the number that five octets behind the first one say
-number_of : List ℕ → ℕ
-number_of xs = (((octet_at xs 1 * 256 + octet_at xs 2) * 256 + octet_at xs 3) * 256 + octet_at xs 4) * 256 + octet_at xs 5
-
-number_back : (n : ℕ) → n < 2 ^ 40 → number_of (shard_octets n) ≡ n
-unfolding number_of octet_at
-number_back n fits = omega arith
-
--- the id of the shard at a place, from 0
-abbrev id_at : ℕ → List (List ℕ × ShardSpec) → List ℕ
-id_at i [] = []
-id_at zero (e ∷ es) = e.1.id
-id_at (suc i) (e ∷ es) = id_at i es
-
--- the rank of a producer is that of the shard at its number, from 1
-pub rank_by : (List ℕ → ℕ) → List (List ℕ × ShardSpec) → List ℕ → ℕ
-rank_by rank es producer = rank (id_at (number_of producer - 1) es)
-
--- a wiring is that of one of the shards, whose rank its producer has
-record IsWired (rank : List ℕ → ℕ) (by : List ℕ → ℕ) (ss : List ShardSpec) (u : Wiring) : Type 0 where
-  shard : ShardSpec
-  among : IsAmong ss shard
-  ranked : by u.producer ≡ rank shard.id
-  outputs : u.outputs ≡ outputs_of shard
-  sources : u.sources ≡ map source_of shard.sources
-
-abbrev AllWired : (List ℕ → ℕ) → (List ℕ → ℕ) → List ShardSpec → List Wiring → Type 0
-AllWired rank by ss [] = ⊤
-AllWired rank by ss (u ∷ us) = IsWired rank by ss u × AllWired rank by ss us
-
-one_ranked : (rank : List ℕ → ℕ) (all : List (List ℕ × ShardSpec)) (place n : ℕ) (id : List ℕ) → n ≡ place + 1 → n < 2 ^ 40 → id_at place all ≡ id → rank_by rank all (shard_octets n) ≡ rank id
-unfolding rank_by
-one_ranked rank all place n id next fits is =
-    let back : number_of (shard_octets n) - 1 ≡ place = let b = number_back n fits in omega (arith, b, next) in
-    ap (λ (i : ℕ). rank (id_at i all)) back ∙ ap rank is
-
--- the shards from a place on are wired
-wired_from : (rank : List ℕ → ℕ) (ss : List ShardSpec) (all : List (List ℕ × ShardSpec)) (place n : ℕ) (es : List (List ℕ × ShardSpec)) → n ≡ place + 1 → n + length es < 2 ^ 40
-    → ((i : ℕ) → id_at (place + i) all ≡ id_at i es) → Shards (IsAmong ss) es → AllWired rank (rank_by rank all) ss (wirings_of (all_fresh n (map defined es)))
-wired_from rank ss all place n [] next fits same among = tt
-wired_from rank ss all place n (e ∷ es) next fits same among = (
-  record {
-    shard = e.1;
-    among = among.0;
-    ranked = one_ranked rank all place n e.1.id next (omega (arith, fits)) (ap (λ (i : ℕ). id_at i all) (omega arith) ∙ same 0);
-    outputs = refl;
-    sources = refl;
-  },
-  wired_from rank ss all (place + 1) (n + 1) es (omega (arith, next)) (omega (arith, fits)) (λ i. ap (λ (k : ℕ). id_at k all) (omega arith) ∙ same (suc i)) among.1,
-)
+wirings_said : (cs : List Shard) → wirings_of cs ≡ map wiring_said (map plain.definition_of cs)
+wirings_said [] = refl
+wirings_said (c ∷ cs) = ap (λ (us : List Wiring). wiring_of c ∷ us) (wirings_said cs)
 
 -- ---- writers and readers
 
@@ -183,46 +138,41 @@ before_if : (rank : List ℕ → ℕ) (s t : ShardSpec) (b : Bool) → feeds s t
 before_if rank s t true is rises = inr (rises is)
 before_if rank s t false is rises = inl (beside (outputs_of s) t.sources (none_read (outputs_of s) t.sources is))
 
-is_before : (rank by : List ℕ → ℕ) (ss : List ShardSpec) (u v : Wiring) → AreRanked rank ss → IsWired rank by ss u → IsWired rank by ss v → IsBefore by u v
-is_before rank by ss u v ranked a b =
-    rw (a.outputs, b.sources, a.ranked, b.ranked) (before_if rank a.shard b.shard (feeds a.shard b.shard) refl (ranked.rises a.shard b.shard a.among b.among))
+are_before : (rank : List ℕ → ℕ) (ss : List ShardSpec) (es : List (List ℕ × ShardSpec)) (t : ShardSpec) → AreRanked rank ss → Shards (IsAmong ss) es → IsAmong ss t
+    → AreBefore rank (map wiring_said (map defined es)) (wiring_said (definition_of t))
+are_before rank ss [] t ranked all among = tt
+are_before rank ss (e ∷ es) t ranked all among = (before_if rank e.1 t (feeds e.1 t) refl (ranked.rises e.1 t all.0 among), are_before rank ss es t ranked all.1 among)
 
-are_before : (rank by : List ℕ → ℕ) (ss : List ShardSpec) (us : List Wiring) (v : Wiring) → AreRanked rank ss → AllWired rank by ss us → IsWired rank by ss v → AreBefore by us v
-are_before rank by ss [] v ranked all b = tt
-are_before rank by ss (u ∷ us) v ranked all b = (is_before rank by ss u v ranked all.0 b, are_before rank by ss us v ranked all.1 b)
+all_before : (rank : List ℕ → ℕ) (ss : List ShardSpec) (es fs : List (List ℕ × ShardSpec)) → AreRanked rank ss → Shards (IsAmong ss) es → Shards (IsAmong ss) fs
+    → AllBefore rank (map wiring_said (map defined es)) (map wiring_said (map defined fs))
+all_before rank ss es [] ranked all each = tt
+all_before rank ss es (f ∷ fs) ranked all each = (are_before rank ss es f.1 ranked all each.0, all_before rank ss es fs ranked all each.1)
 
-all_before : (rank by : List ℕ → ℕ) (ss : List ShardSpec) (us vs : List Wiring) → AreRanked rank ss → AllWired rank by ss us → AllWired rank by ss vs → AllBefore by us vs
-all_before rank by ss us [] ranked all each = tt
-all_before rank by ss us (v ∷ vs) ranked all each = (are_before rank by ss us v ranked all each.0, all_before rank by ss us vs ranked all each.1)
-
-all_below : (rank by : List ℕ → ℕ) (ss : List ShardSpec) (us : List Wiring) → AreRanked rank ss → AllWired rank by ss us → AllBelow by (length ss) us
-all_below rank by ss [] ranked all = tt
-all_below rank by ss (u ∷ us) ranked all = (rw (all.0.ranked) (ranked.below all.0.shard all.0.among), all_below rank by ss us ranked all.1)
+all_below : (rank : List ℕ → ℕ) (ss : List ShardSpec) (es : List (List ℕ × ShardSpec)) → AreRanked rank ss → Shards (IsAmong ss) es → AllBelow rank (length ss) (map wiring_said (map defined es))
+all_below rank ss [] ranked all = tt
+all_below rank ss (e ∷ es) ranked all = (ranked.below e.1 all.0, all_below rank ss es ranked all.1)
 
 -- ---- all of them
 
-fresh_count : (place : ℕ) (ds : List Definition) → length (wirings_of (all_fresh place ds)) ≡ length ds
-fresh_count place [] = refl
-fresh_count place (d ∷ ds) = ap (λ (n : ℕ). suc n) (fresh_count (place + 1) ds)
-
-map_count : (es : List (List ℕ × ShardSpec)) → length (map defined es) ≡ length es
-map_count [] = refl
-map_count (e ∷ es) = ap (λ (n : ℕ). suc n) (map_count es)
+map_count : {A B : Type 0} (f : A → B) (xs : List A) → length (map f xs) ≡ length xs
+map_count f [] = refl
+map_count f (x ∷ xs) = ap (λ (n : ℕ). suc n) (map_count f xs)
 
 pub definitions_count : (ss : List ShardSpec) → are_fresh id_of_shard [] ss ≡ true → length (definitions_of ss) ≡ length ss
-definitions_count ss fresh = map_count (in_id_order ss) ∙ length_in_order ss fresh
+definitions_count ss fresh = map_count defined (in_id_order ss) ∙ length_in_order ss fresh
 
--- shards that are ranked begin in an order in which each journal's writers come before its readers
-pub in_order : (rank : List ℕ → ℕ) (ss : List ShardSpec) → are_fresh id_of_shard [] ss ≡ true → length ss ≤ 256 → AreRanked rank ss
-    → AreInOrder (rank_by rank (in_id_order ss)) (wirings_of (all_fresh 1 (definitions_of ss)))
-in_order rank ss fresh few ranked =
-    let by = rank_by rank (in_id_order ss) in
-    let us = wirings_of (all_fresh 1 (definitions_of ss)) in
-    let count : length us ≡ length ss = fresh_count 1 (definitions_of ss) ∙ definitions_count ss fresh in
-    let fits : 1 + length (in_id_order ss) < 2 ^ 40 = let n = length_in_order ss fresh in omega (arith, n, few) in
-    let all : AllWired rank by ss us =
-    wired_from rank ss (in_id_order ss) 0 1 (in_id_order ss) refl fits (λ i. ap (λ (k : ℕ). id_at k (in_id_order ss)) (omega arith)) (each_in_order (IsAmong ss) ss (each_among ss)) in
+wirings_in_order : (rank : List ℕ → ℕ) (ss : List ShardSpec) → are_fresh id_of_shard [] ss ≡ true → AreRanked rank ss → AreInOrder rank (map wiring_said (definitions_of ss))
+wirings_in_order rank ss fresh ranked =
+    let es = in_id_order ss in
+    let all : Shards (IsAmong ss) es = each_in_order (IsAmong ss) ss (each_among ss) in
+    let count : length (map wiring_said (definitions_of ss)) ≡ length ss = map_count wiring_said (definitions_of ss) ∙ definitions_count ss fresh in
     record {
-      before = all_before rank by ss us us ranked all all;
-      below = subst (λ (n : ℕ). AllBelow by n us) (sym count) (all_below rank by ss us ranked all);
+      before = all_before rank ss es es ranked all all;
+      below = subst (λ (n : ℕ). AllBelow rank n (map wiring_said (definitions_of ss))) (sym count) (all_below rank ss es ranked all);
     }
+
+-- shards that are as ranked specifications say are in an order in which each journal's writers come before its readers
+pub in_order : (rank : List ℕ → ℕ) (ss : List ShardSpec) (cs : List Shard) → are_fresh id_of_shard [] ss ≡ true → AreRanked rank ss → map plain.definition_of cs ≡ definitions_of ss
+    → AreInOrder rank (wirings_of cs)
+in_order rank ss cs fresh ranked same =
+    subst (λ (us : List Wiring). AreInOrder rank us) (sym (wirings_said cs ∙ ap (λ (ds : List Definition). map wiring_said ds) same)) (wirings_in_order rank ss fresh ranked)

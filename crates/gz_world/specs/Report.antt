@@ -8,17 +8,16 @@ use Rattle.gz_spec.specs.Links.{framing_in}
 use Rattle.gz_spec.specs.declared.framing.Framing.{Framing}
 use Rattle.gz_spec.specs.declared.framing.Framing.TheVariants.{Lines, FixedFrames, RecoveryLog, Bytes}
 use Rattle.gz_spec.specs.declared.journal.JournalSpec.{JournalSpec}
-use Rattle.gz_spec.specs.declared.shard.ShardSpec.{ShardSpec}
 use Rattle.gz_plain.specs.Journals.{Journal, text_of}
 use Rattle.gz_plain.specs.Reports as plain
+use Rattle.gz_plain.specs.Shards as shards
 use Rattle.gz_plain.specs.declared.report.ShardReport.{ShardReport}
 use Rattle.gz_world.specs.declared.reply.Answer.{Answer}
 use Rattle.gz_world.specs.declared.reply.Answer.TheVariants.{Landed, TooLarge, NotFramed}
 use Rattle.gz_world.specs.declared.reply.Reason.{Reason}
-use Rattle.gz_world.specs.declared.reply.Reason.TheVariants.{NameUsed, NoRoute}
+use Rattle.gz_world.specs.declared.reply.Reason.TheVariants.{NameUsed, NoRoute, BadSpecs, MembersFull, NoMember, KeysEnd}
 use Rattle.gz_world.specs.declared.reply.Told.{Told}
 use Rattle.gz_world.specs.declared.reply.Told.TheVariants.{Replied, Refused}
-use Rattle.gz_world.specs.Starts.{in_id_order}
 use Rattle.gz_world.specs.Worlds.{World}
 
 -- ---- what was told
@@ -31,6 +30,10 @@ answer_text NotFramed = codes "not framed"
 abbrev pub reason_text : Reason → List ℕ
 reason_text NameUsed = codes "name used"
 reason_text NoRoute = codes "no route"
+reason_text BadSpecs = codes "bad specs"
+reason_text MembersFull = codes "members full"
+reason_text NoMember = codes "no member"
+reason_text KeysEnd = codes "keys end"
 
 -- `reply LINE CLIENT ANSWER`, or `refused LINE REASON`
 abbrev pub told_line : Told → List ℕ
@@ -47,10 +50,13 @@ put_journals (j ∷ js) entries = put_journals js (insert_entry (slice_cmp nat_c
 abbrev pub in_name_order : List JournalSpec → List (List ℕ × Framing)
 in_name_order journals = put_journals journals []
 
--- `journal NAME END COMMITTED -`, where END is the end of the journal's text, COMMITTED the number of its committed
--- messages, and `-` stands for no registers
+-- `journal NAME END COMMITTED -`, where `-` stands for no registers
+abbrev pub journal_of : List ℕ → ℕ → ℕ → List ℕ
+journal_of name end committed = codes "journal " ++ name ++ codes " " ++ decimal end ++ codes " " ++ decimal committed ++ codes " -\n"
+
+-- END is the end of the journal's text, and COMMITTED the number of its committed messages
 abbrev pub journal_text : List ℕ → List ℕ → List ℕ
-journal_text name text = codes "journal " ++ name ++ codes " " ++ decimal (length text) ++ codes " " ++ decimal (plain.count_committed text) ++ codes " -\n"
+journal_text name text = journal_of name (length text) (plain.count_committed text)
 
 -- a recovery log has no line
 abbrev pub line_if : Framing → List ℕ → List ℕ
@@ -69,24 +75,26 @@ abbrev pub status_of : ShardReport → List ℕ
 status_of r = if r.is_caught then codes "caught" else (if r.is_disabled then codes "stalled disabled" else codes "behind")
 
 -- `shard ID COMMITS MESSAGES STATUS STATE`, where MESSAGES is the length of the read order
-abbrev pub shard_line : List ℕ → ShardReport → List ℕ
-shard_line id r =
-    codes "shard " ++ id ++ codes " " ++ decimal r.commits ++ codes " " ++ decimal r.messages ++ codes " " ++ status_of r ++ codes " " ++ r.store ++ codes "\n"
+abbrev pub shard_line : ShardReport → List ℕ
+shard_line r =
+    codes "shard " ++ r.id ++ codes " " ++ decimal r.commits ++ codes " " ++ decimal r.messages ++ codes " " ++ status_of r ++ codes " " ++ r.store ++ codes "\n"
 
 -- a line for each, in the same order
-abbrev pub shard_lines : List (List ℕ × ShardSpec) → List ShardReport → List ℕ
-shard_lines [] rs = []
-shard_lines (e ∷ es) [] = []
-shard_lines (e ∷ es) (r ∷ rs) = shard_line e.0 r ++ shard_lines es rs
+abbrev pub shard_lines : List ShardReport → List ℕ
+shard_lines reports = flat_map shard_line reports
 
 -- ---- the whole
 
--- what was told in the order of the lines, journals in name order, and shards in the order of their ids
+-- What was told in the order of the lines, journals in name order by the specifications of now, and shards in the order of
+-- their ids, in which the cluster has them.
+abbrev pub report_from : List Told → List JournalSpec → shards.World → List ℕ
+report_from told journals cluster =
+    flat_map told_line told
+    ++ flat_map (journal_line cluster.journals) (in_name_order journals)
+    ++ shard_lines (map (plain.report_of cluster.journals) cluster.shards)
+
 abbrev pub report_of : World → List ℕ
-report_of w =
-    flat_map told_line w.told
-    ++ flat_map (journal_line w.cluster.journals) (in_name_order w.specs.journals)
-    ++ shard_lines (in_id_order w.specs.shards) (map (plain.report_of w.cluster.journals) w.cluster.shards)
+report_of w = report_from w.told w.specs.journals w.cluster
 
 -- an empty input starts no world, and its report is empty
 abbrev pub report_if : Option World → List ℕ

@@ -7,7 +7,7 @@ use Rattle.gz_scenario.specs.Refusals as scenario
 use Rattle.gz_scenario.specs.declared.error.ScenarioError.{ScenarioError}
 use Rattle.gz_scenario.specs.declared.error.ScenarioError.TheVariants.{Limit, Unknown}
 use Rattle.gz_scenario.specs.declared.event.Event.{Event}
-use Rattle.gz_scenario.specs.declared.event.Event.TheVariants.{Specs, Publish, Settle}
+use Rattle.gz_scenario.specs.declared.event.Event.TheVariants.{Specs, Publish, Settle, Apply, Join, Expire}
 use Rattle.gz_world.specs.Worlds.{World, world_start, after}
 
 -- the most bytes of an input; of a line, and how many lines there may be, is judged where lines are read
@@ -19,6 +19,9 @@ abbrev pub started : Event → Result World ScenarioError
 started (Specs specs) = Ok (world_start specs)
 started (Publish p) = Err (Unknown 1)
 started Settle = Err (Unknown 1)
+started (Apply more) = Err (Unknown 1)
+started (Join j) = Err (Unknown 1)
+started (Expire name) = Err (Unknown 1)
 
 -- the first line starts a world
 abbrev pub judged_first : List ℕ → Result World ScenarioError

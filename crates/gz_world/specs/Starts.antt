@@ -1,20 +1,26 @@
--- What a cluster begins with, by its specifications.
-use Rattle.std.specs.Prelude.{ℕ, List, [], ◌∷◌, map, Option, Some, None, codes}
+-- What the journals and shards of a cluster are, by its specifications.
+use Rattle.std.specs.Prelude.{◌≡◌, ℕ, List, [], ◌∷◌, map, filter, Option, Some, None, true, codes}
 use Rattle.std.specs.Ordering.{nat_cmp}
 use Rattle.std.specs.Cmp.Lexicographic.{slice_cmp}
 use Rattle.std.specs.BTreeMap.{insert_entry}
 use Rattle.gz_label.specs.Labels.{values_of}
 use Rattle.gz_spec.specs.declared.app.App.{App}
 use Rattle.gz_spec.specs.declared.app.App.TheVariants as spec
+use Rattle.gz_spec.specs.declared.journal.JournalSpec.{JournalSpec}
 use Rattle.gz_spec.specs.declared.source.SourceSpec.{SourceSpec}
 use Rattle.gz_spec.specs.declared.shard.ShardSpec.{ShardSpec}
 use Rattle.gz_spec.specs.declared.cluster.Specs.{Specs}
+use Rattle.gz_spec.specs.Joins.{is_new}
 use Rattle.gz_spec.specs.Links.{outputs_of}
 use Rattle.gz_spec.specs.Shards.{app_of}
 use Rattle.gz_spec.specs.Specs.{name_of_journal}
+use Rattle.gz_spec.specs.Valid.{are_specs}
 use Rattle.gz_app.specs.declared.app.AppKind.{AppKind}
 use Rattle.gz_app.specs.declared.app.AppKind.TheVariants.{Count, Relay, Latest}
-use Rattle.gz_plain.specs.Runs.{Definition, begun}
+use Rattle.gz_plain.specs.Definitions as shards
+use Rattle.gz_plain.specs.Definitions.{Definition}
+use Rattle.gz_plain.specs.Places.{names_of}
+use Rattle.gz_plain.specs.Runs.{nothing, changed}
 use Rattle.gz_plain.specs.Shards as plain
 use Rattle.gz_plain.specs.Sources.{Source}
 
@@ -43,6 +49,8 @@ source_of s = record { journal = s.journal; from = s.min_offset }
 
 abbrev pub definition_of : ShardSpec → Definition
 definition_of s = record {
+  id = s.id;
+  log = s.recovery_log_prefix;
   sources = map source_of s.sources;
   outputs = outputs_of s;
   app = kind_of (app_of (values_of (codes "app") s.labels));
@@ -59,6 +67,30 @@ defined e = definition_of e.1
 abbrev pub definitions_of : List ShardSpec → List Definition
 definitions_of shards = map defined (in_id_order shards)
 
+-- the names of journals, in their order
+abbrev pub names_of_journals : List JournalSpec → List (List ℕ)
+names_of_journals journals = map name_of_journal journals
+
 -- empty journals, and shards that have read nothing
 abbrev pub cluster_start : Specs → plain.World
-cluster_start specs = begun (map name_of_journal specs.journals) (definitions_of specs.shards)
+cluster_start specs = changed (names_of_journals specs.journals) (definitions_of specs.shards) nothing
+
+-- ---- with more of them
+
+-- the journals among more that aren't there
+abbrev pub new_journals : Specs → Specs → List JournalSpec
+new_journals specs more = filter (is_new name_of_journal specs.journals) more.journals
+
+-- The cluster where specifications come to more of them, and all together are these: the new journals are empty, and
+-- each shard is from now on what they say.
+abbrev pub cluster_with : Specs → Specs → Specs → plain.World → plain.World
+cluster_with specs more all w = changed (names_of_journals (new_journals specs more)) (definitions_of all.shards) w
+
+-- ---- what holds at each time
+
+-- A cluster is as specifications say, in which there is nothing to refuse: its journals are those that they name, and its
+-- shards are of their definitions.
+pub record IsSpecified (specs : Specs) (w : plain.World) : Type 0 where
+  pub valid : are_specs specs ≡ true
+  pub names : names_of w.journals ≡ names_of_journals specs.journals
+  pub said : map shards.definition_of w.shards ≡ definitions_of specs.shards

@@ -2,7 +2,7 @@
 ghost use Rattle.std.specs.Prelude.{◌≡◌, IfOk, IsTrue};
 ghost use Rattle.std.specs.List.{list_all};
 ghost use Rattle.gz_scenario.specs.Lawful.{is_draft};
-ghost use Rattle.gz_world.specs.Worlds.{flags_of, message_at, is_sound, text_at};
+ghost use Rattle.gz_world.specs.Worlds.{flags_of, message_at, text_at};
 
 use gz_frame::{Message, print_line};
 use gz_label::{Blob, NoMemory};
@@ -21,11 +21,9 @@ fn flags_of(flag: Flag) -> Flags
 }
 
 /// The draft as a message of this producer.
-#[tactic(auto, unfolding(crate::specs::Worlds::is_sound))]
 fn message_of(alloc: Global, producer: ProducerId, draft: &Draft) -> Result<Message, NoMemory>
     requires { IsTrue (is_draft draft.now) }
-    ensures value { IfOk result (λ message. message ≡ message_at producer draft.now) }
-    ensures sound { IfOk result (λ message. IsTrue (is_sound message)) }
+    ensures { IfOk result (λ message. message ≡ message_at producer draft.now) }
 {
     let flags = flags_of(draft.flag);
     let clock = MsgClock::new(draft.clock);
@@ -36,9 +34,7 @@ fn message_of(alloc: Global, producer: ProducerId, draft: &Draft) -> Result<Mess
     };
     let key = String::from_str(alloc, draft.key.as_str())?;
     let value = String::from_str(alloc, draft.value.as_str())?;
-    let message = Message::of(parts, key, value);
-    let _parts = message.parts();
-    Ok(message)
+    Ok(Message::of(parts, key, value))
 }
 
 /// The lines of the drafts as messages of this producer.

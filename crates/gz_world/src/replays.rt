@@ -5,6 +5,7 @@ ghost use Rattle.gz_model.specs.Faults.{HasRisen};
 ghost use Rattle.gz_model.specs.Told.{ahead};
 ghost use Rattle.gz_scenario.specs.Events.{event_of};
 ghost use Rattle.gz_scenario.specs.Lawful.{is_event};
+ghost use Rattle.gz_world.specs.Starts.{IsSpecified};
 ghost use Rattle.gz_world.specs.Run.{judged, judged_first, started, refusal_line as line_of};
 ghost use Rattle.gz_world.specs.Replays.{refused_or, Gives, GivesValue};
 ghost use Rattle.gz_world.specs.Told.{HasOutcome, RunsTo, TakesNext};
@@ -70,18 +71,17 @@ fn read_line(alloc: Global, number: u64, line: &[u8]) -> Result<Event, ReplayErr
 }
 
 /// The world that the first line starts.
-#[tactic(auto, using(crate::proofs::Lines::begun_valid))]
 fn begin(alloc: Global, line: &[u8]) -> Result<World, ReplayError>
-    ensures { GivesValue result (judged_first line.now) }
+    ensures gives { GivesValue result (judged_first line.now) }
+    ensures specified { IfOk result (λ world. IsSpecified world.specs world.cluster) }
 {
     match read_line(alloc, 1, line)? {
         Event::Specs(specs) => {
             let world = World::start(alloc, specs)?;
             Ok(world)
         }
-        Event::Publish(_) | Event::Settle => {
-            Err(ReplayError::Refused(ScenarioError::Unknown { line: 1 }))
-        }
+        Event::Publish(_) | Event::Settle | Event::Apply(_) | Event::Join(_) | Event::Expire(_) =>
+            Err(ReplayError::Refused(ScenarioError::Unknown { line: 1 })),
     }
 }
 
@@ -94,8 +94,10 @@ fn advance(
     line: &[u8],
     world: &mut World,
 ) -> Result<(), ReplayError>
-    requires { before ≤ 134217728 }
+    requires before { before ≤ 134217728 }
+    requires specified { IsSpecified world.old.specs world.old.cluster }
     ensures gives { Gives world.new result (judged number before line.now world.old) }
+    ensures specified { OnOk result (IsSpecified world.new.specs world.new.cluster) }
     ensures within { OnOk result ((number ≤ 65536) × (before + length line.now ≤ 134217728)) }
 {
     if line.len() as u64 > MAX_INPUT - before {
@@ -133,7 +135,8 @@ fn go_on<S: Source>(
     first: u64,
     world: &mut World,
 ) -> Result<(), ReplayError>
-    requires { first ≤ 134217728 }
+    requires first { first ≤ 134217728 }
+    requires specified { IsSpecified world.old.specs world.old.cluster }
     ensures done { OnOk result (RunsTo (ahead reader.old (S.left input.old)) first world.old (Ok world.new)) }
     ensures end { OnOk result (IsAtEnd (S.left input.new)) }
     ensures refused { (refusal : ScenarioError) → result ≡ Err (ReplayError.Refused refusal) → RunsTo (ahead reader.old (S.left input.old)) first world.old (Err refusal) }

@@ -6,7 +6,7 @@ use gz_label::Name;
 #[derive(Clone, Copy, Debug, PartialEq, Eq)]
 pub enum Answer {
     /// It landed, from the offset of its first byte to the one behind its last.
-    Landed { begin: usize, end: usize },
+    Landed { begin: u64, end: u64 },
     /// It has more than 1,048,576 bytes.
     TooLarge,
     /// The journal is one of fixed frames, and it isn't.
@@ -16,10 +16,19 @@ pub enum Answer {
 /// Why an event is refused.
 #[derive(Clone, Copy, Debug, PartialEq, Eq)]
 pub enum Reason {
-    /// The client's name is a broker's or a consumer's, or kept for the program's own.
+    /// The name is or was a member's, or is kept for the program's own; for a new member also where a client of
+    /// this name has asked.
     NameUsed,
     /// There is no such journal.
     NoRoute,
+    /// The specifications can't be joined to those that are there.
+    BadSpecs,
+    /// 64 members have joined so far.
+    MembersFull,
+    /// There is no live member of this name.
+    NoMember,
+    /// The key space has had its last revision.
+    KeysEnd,
 }
 
 /// What was told of an event. Lines are those of the scenario, from 1.

@@ -1,16 +1,16 @@
 //! The report of a world.
-ghost use Rattle.std.specs.Prelude.{◌≡◌, ◌++◌, ◌≤◌, ◌^◌, length, map, flat_map, IfOk, OnOk};
+ghost use Rattle.std.specs.Prelude.{◌≡◌, ◌++◌, map, flat_map, IfOk, OnOk};
+ghost use Rattle.gz_plain.specs.Journals.{text_of};
 ghost use Rattle.gz_plain.specs.Reports.{report_of as report_of_shard};
 ghost use Rattle.gz_world.specs.declared.reply.Answer.TheVariants.{Landed};
 ghost use Rattle.gz_world.specs.declared.reply.Told.TheVariants.{Replied, Refused};
-ghost use Rattle.gz_world.specs.Report.{answer_text, reason_text, told_line, in_name_order, journal_text, journal_line, status_of, shard_line, shard_lines, report_of};
+ghost use Rattle.gz_world.specs.Report.{answer_text, reason_text, told_line, in_name_order, journal_of, journal_text, journal_line, status_of, shard_line, shard_lines, report_from};
 
-use crate::judge::text_in;
+use crate::judge::journal_in;
 use crate::reply::{Answer, Reason, Told};
-use crate::start::{ShardTable, in_id_order};
 use gz_label::{Blob, Name, NoMemory};
 use gz_plain::{Cluster, ShardReport, count_committed};
-use gz_spec::{Framing, JournalSpec, Specs};
+use gz_spec::{Framing, JournalSpec};
 use std::alloc::Global;
 use std::collections::BTreeMap;
 use std::marker::Model;
@@ -40,7 +40,7 @@ fn in_name_order(alloc: Global, journals: &[JournalSpec]) -> Result<JournalTable
     Ok(JournalTable { entries })
 }
 
-fn print_landed(alloc: Global, begin: usize, end: usize) -> Result<Blob, NoMemory>
+fn print_landed(alloc: Global, begin: u64, end: u64) -> Result<Blob, NoMemory>
     ensures { IfOk result (λ text. text ≡ answer_text (Landed begin end)) }
 {
     let text = format!(in alloc; "ok {begin} {end}")?;
@@ -63,6 +63,10 @@ fn reason_text(reason: Reason) -> &'static [u8]
     match reason {
         Reason::NameUsed => b"name used",
         Reason::NoRoute => b"no route",
+        Reason::BadSpecs => b"bad specs",
+        Reason::MembersFull => b"members full",
+        Reason::NoMember => b"no member",
+        Reason::KeysEnd => b"keys end",
     }
 }
 
@@ -114,15 +118,30 @@ fn print_all_told(alloc: Global, out: &mut Blob, all: &[Told]) -> Result<(), NoM
     Ok(())
 }
 
-fn print_text(alloc: Global, out: &mut Blob, name: &Name, text: &[u8]) -> Result<(), NoMemory>
-    requires { length text.now ≤ 2 ^ 62 }
-    ensures { OnOk result (out.new ≡ out.old ++ journal_text name.now text.now) }
+fn print_line(
+    alloc: Global,
+    out: &mut Blob,
+    name: &Name,
+    end: u64,
+    committed: usize,
+) -> Result<(), NoMemory>
+    ensures { OnOk result (out.new ≡ out.old ++ journal_of name.now end committed) }
 {
-    let end = text.len();
-    let committed = count_committed(alloc, text)?;
     let name = name.as_str();
     let line = format!(in alloc; "journal {name} {end} {committed} -\n")?;
     out.append(line.as_bytes())
+}
+
+fn print_text(alloc: Global, out: &mut Blob, cluster: &Cluster, name: &Name) -> Result<(), NoMemory>
+    ensures { OnOk result (out.new ≡ out.old ++ journal_text name.now (text_of name.now cluster.now.journals)) }
+{
+    match journal_in(cluster, name.as_slice()) {
+        Some(journal) => {
+            let committed = count_committed(alloc, journal)?;
+            print_line(alloc, out, name, journal.end(), committed)
+        }
+        None => print_line(alloc, out, name, 0, 0),
+    }
 }
 
 fn print_journal(
@@ -137,7 +156,7 @@ fn print_journal(
     match framing {
         Framing::RecoveryLog => Ok(()),
         Framing::Lines | Framing::FixedFrames | Framing::Bytes => {
-            print_text(alloc, out, name, text_in(cluster, name.as_slice()))
+            print_text(alloc, out, cluster, name)
         }
     }
 }
@@ -171,15 +190,10 @@ fn status_text(report: &ShardReport) -> &'static [u8]
     }
 }
 
-fn print_shard(
-    alloc: Global,
-    out: &mut Blob,
-    id: &Name,
-    report: &ShardReport,
-) -> Result<(), NoMemory>
-    ensures { OnOk result (out.new ≡ out.old ++ shard_line id.now report.now) }
+fn print_shard(alloc: Global, out: &mut Blob, report: &ShardReport) -> Result<(), NoMemory>
+    ensures { OnOk result (out.new ≡ out.old ++ shard_line report.now) }
 {
-    let id = id.as_str();
+    let id = report.id.as_str();
     let commits = report.commits;
     let messages = report.messages;
     let head = format!(in alloc; "shard {id} {commits} {messages} ")?;
@@ -190,40 +204,29 @@ fn print_shard(
     out.append(b"\n")
 }
 
-/// A line for each shard, by what is told of the shards in the same order.
-fn print_shards(
-    alloc: Global,
-    out: &mut Blob,
-    table: &ShardTable,
-    reports: &[ShardReport],
-) -> Result<(), NoMemory>
-    ensures { OnOk result (out.new ≡ out.old ++ shard_lines table.now reports.now) }
+/// A line for each shard.
+fn print_shards(alloc: Global, out: &mut Blob, reports: &[ShardReport]) -> Result<(), NoMemory>
+    ensures { OnOk result (out.new ≡ out.old ++ shard_lines reports.now) }
 {
-    let mut place = 0;
-    for (id, _shard) in &table.entries {
-        let Some(report) = reports.get(place) else {
-            return Ok(());
-        };
-        print_shard(alloc, out, id, report)?;
-        place += 1;
+    for report in reports {
+        print_shard(alloc, out, report)?;
     }
     Ok(())
 }
 
-/// The report of these specifications, of what was told, and of the journals and shards.
+/// The report of what was told, of the journals of these specifications, and of the shards.
 pub fn print(
     alloc: Global,
-    specs: &Specs,
     told: &[Told],
+    journals: &[JournalSpec],
     cluster: &Cluster,
 ) -> Result<Blob, NoMemory>
-    ensures { IfOk result (λ text. text ≡ report_of (record { specs = specs.now; told = told.now; cluster = cluster.now })) }
+    ensures { IfOk result (λ text. text ≡ report_from told.now journals.now cluster.now) }
 {
     let mut out = Blob::new(alloc);
     print_all_told(alloc, &mut out, told)?;
-    print_journals(alloc, &mut out, cluster, specs.journals.as_slice())?;
-    let table = in_id_order(alloc, specs.shards.as_slice())?;
+    print_journals(alloc, &mut out, cluster, journals)?;
     let reports = cluster.reports(alloc)?;
-    print_shards(alloc, &mut out, &table, reports.as_slice())?;
+    print_shards(alloc, &mut out, reports.as_slice())?;
     Ok(out)
 }

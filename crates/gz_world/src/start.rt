@@ -1,11 +1,14 @@
-//! What a cluster begins with.
-ghost use Rattle.std.specs.Prelude.{◌≡◌, map, codes, IfOk, IsTrue};
+//! The journals and shards of a cluster, by its specifications.
+ghost use Rattle.std.specs.Prelude.{◌≡◌, ◌++◌, ◌≤◌, length, map, drop, codes, IfOk, OnOk, IsTrue};
 ghost use Rattle.std.specs.List.{list_all};
 ghost use Rattle.gz_label.specs.Labels.{values_of};
-ghost use Rattle.gz_spec.specs.Specs.{name_of_journal};
+ghost use Rattle.gz_spec.specs.Links.{are_linked};
 ghost use Rattle.gz_spec.specs.Valid.{is_source, is_shard, are_specs};
 ghost use Rattle.gz_plain.specs.Cluster.{AreSmallSources, AreSmall, source_named, definition_of as definition_seen, definitions_of as definitions_seen};
-ghost use Rattle.gz_world.specs.Starts.{kind_of, source_of, definition_of, definitions_of, in_id_order, cluster_start};
+ghost use Rattle.gz_plain.specs.Places.{names_of};
+ghost use Rattle.gz_plain.specs.Runs.{changed};
+ghost use Rattle.gz_scenario.specs.Lawful.{is_start};
+ghost use Rattle.gz_world.specs.Starts.{kind_of, source_of, definition_of, definitions_of, names_of_journals, in_id_order, cluster_start};
 
 use gz_app::AppKind;
 use gz_label::{Label, Name, NoMemory};
@@ -17,8 +20,8 @@ use std::marker::Model;
 
 /// The shards in the order of their ids. Contracts see pairs of an id and a shard.
 #[derive(Drop)]
-pub struct ShardTable {
-    pub entries: BTreeMap<Name, ShardSpec>,
+struct ShardTable {
+    entries: BTreeMap<Name, ShardSpec>,
 }
 
 impl Model for ShardTable {
@@ -31,7 +34,7 @@ impl Model for ShardTable {
 }
 
 /// The shards in the order of their ids.
-pub fn in_id_order(alloc: Global, shards: &[ShardSpec]) -> Result<ShardTable, NoMemory>
+fn in_id_order(alloc: Global, shards: &[ShardSpec]) -> Result<ShardTable, NoMemory>
     ensures { IfOk result (λ table. table ≡ in_id_order shards.now) }
 {
     let mut entries = BTreeMap::new(alloc);
@@ -82,6 +85,8 @@ fn definition(alloc: Global, shard: &ShardSpec) -> Result<Definition, NoMemory>
     ensures small { IfOk result (λ d. AreSmallSources d.sources.items) }
 {
     Ok(Definition {
+        id: shard.id.copy()?,
+        log: shard.recovery_log_prefix.copy()?,
         sources: sources_of(alloc, shard.sources.as_slice())?,
         outputs: values(alloc, shard.labels.labels_named(b"output"))?,
         app: kind_of(shard.app()),
@@ -106,7 +111,7 @@ fn definitions(alloc: Global, shards: &[ShardSpec]) -> Result<Vec<Definition>, N
 }
 
 fn names(alloc: Global, journals: &[JournalSpec]) -> Result<Vec<Name>, NoMemory>
-    ensures { IfOk result (λ names. names.items ≡ map name_of_journal journals.now) }
+    ensures { IfOk result (λ names. names.items ≡ names_of_journals journals.now) }
 {
     let mut names = Vec::new(alloc);
     for journal in journals {
@@ -115,14 +120,32 @@ fn names(alloc: Global, journals: &[JournalSpec]) -> Result<Vec<Name>, NoMemory>
     Ok(names)
 }
 
+/// Makes the journals and shards of a cluster those of specifications. The first of their journals, so many, are
+/// there, and the others come behind them, empty.
+pub fn change(
+    alloc: Global,
+    cluster: &mut Cluster,
+    specs: &Specs,
+    there: usize,
+) -> Result<(), NoMemory>
+    requires valid { IsTrue (are_specs specs.now) }
+    requires linked { IsTrue (are_linked specs.now.journals specs.now.shards) }
+    requires there { there ≤ length specs.now.journals }
+    requires names { names_of cluster.old.journals ++ names_of_journals (drop there specs.now.journals) ≡ names_of_journals specs.now.journals }
+    requires few { length cluster.old.shards ≤ 256 }
+    ensures { OnOk result (cluster.new ≡ changed (names_of_journals (drop there specs.now.journals)) (definitions_of specs.now.shards) cluster.old) }
+{
+    let names = names(alloc, &specs.journals.as_slice()[there..])?;
+    let definitions = definitions(alloc, specs.shards.as_slice())?;
+    cluster.change(alloc, names, definitions)
+}
+
 /// Empty journals, and shards that have read nothing, by specifications that were read.
-#[tactic(auto, using(crate::proofs::Good::distinct_names, crate::proofs::Begun::few_begin))]
 pub fn start(alloc: Global, specs: &Specs) -> Result<Cluster, NoMemory>
-    requires { IsTrue (are_specs specs.now) }
+    requires { IsTrue (is_start specs.now) }
     ensures { IfOk result (λ cluster. cluster ≡ cluster_start specs.now) }
 {
-    let names = names(alloc, specs.journals.as_slice())?;
-    let definitions = definitions(alloc, specs.shards.as_slice())?;
-    let cluster = Cluster::begin(alloc, names, definitions)?;
+    let mut cluster = Cluster::new(alloc);
+    change(alloc, &mut cluster, specs, 0)?;
     Ok(cluster)
 }

@@ -150,6 +150,142 @@ fn shards_in_the_order_of_their_ids(rt: HostRuntime) -> Result<(), Fail> {
     Ok(())
 }
 
+// What becomes of the lines behind the first one.
+fn run(alloc: Global, specs: &str, lines: &[&str]) -> Result<Blob, Fail> {
+    let mut text = Blob::of(alloc, specs.as_bytes())?;
+    for line in lines {
+        text.append(line.as_bytes())?;
+        text.append(b"\n")?;
+    }
+    replayed(alloc, text)
+}
+
+const EMPTY_KINDS: &str = "journal bytes 0 0 -\njournal frames 0 0 -\njournal lines 0 0 -\n";
+
+// Behind the specifications of all kinds of journals: what each of the lines leaves in the report.
+#[test]
+fn members_join_and_expire(rt: HostRuntime) -> Result<(), Fail> {
+    let alloc = rt.alloc();
+    let asks: &str =
+        "{\"do\":\"publish\",\"client\":\"k1\",\"journal\":\"lines\",\"messages\":[{\"flag\":\"outside\",\"clock\":16,\"key\":\"a\",\"value\":\"1\"}]}";
+    let lines: &[&str] = &[
+        "{\"do\":\"expire\",\"member\":\"b9\"}",
+        "{\"do\":\"expire\",\"member\":\"b1\"}",
+        "{\"do\":\"expire\",\"member\":\"b1\"}",
+        "{\"do\":\"join\",\"broker\":{\"id\":\"b1\",\"zone\":\"z1\",\"limit\":1}}",
+        "{\"do\":\"join\",\"broker\":{\"id\":\"b2\",\"zone\":\"z1\",\"limit\":1}}",
+        "{\"do\":\"join\",\"consumer\":{\"id\":\"b2\",\"zone\":\"z1\",\"limit\":1}}",
+        "{\"do\":\"join\",\"consumer\":{\"id\":\"k1\",\"zone\":\"z1\",\"limit\":1}}",
+        "{\"do\":\"expire\",\"member\":\"k1\"}",
+        asks,
+        "{\"do\":\"join\",\"broker\":{\"id\":\"store\",\"zone\":\"z1\",\"limit\":1}}",
+        "{\"do\":\"join\",\"broker\":{\"id\":\"client7\",\"zone\":\"z1\",\"limit\":1}}",
+        "{\"do\":\"expire\",\"member\":\"b2\"}",
+        "{\"do\":\"expire\",\"member\":\"c1\"}",
+    ];
+    let got = run(alloc, KINDS, lines)?;
+    let mut want = Blob::of(
+        alloc,
+        b"refused 2 no member\nrefused 4 no member\nrefused 5 name used\nrefused 7 name used\nrefused 10 name used\nrefused 11 name used\nrefused 12 name used\n",
+    )?;
+    want.append(EMPTY_KINDS.as_bytes())?;
+    assert_eq!(rt; got.as_slice(), want.as_slice());
+    Ok(())
+}
+
+// A client that was answered has asked, whatever the answer was; one whose publish was refused hasn't.
+#[test]
+fn clients_that_have_asked_cannot_join(rt: HostRuntime) -> Result<(), Fail> {
+    let alloc = rt.alloc();
+    for (journal, told) in [
+        (
+            "lines",
+            "reply 2 k1 ok 0 70\nrefused 3 name used\njournal bytes 0 0 -\njournal frames 0 0 -\njournal lines 70 1 -\n",
+        ),
+        (
+            "frames",
+            "reply 2 k1 not framed\nrefused 3 name used\njournal bytes 0 0 -\njournal frames 0 0 -\njournal lines 0 0 -\n",
+        ),
+        (
+            "none",
+            "refused 2 no route\njournal bytes 0 0 -\njournal frames 0 0 -\njournal lines 0 0 -\n",
+        ),
+    ] {
+        let mut text = Blob::of(alloc, KINDS.as_bytes())?;
+        let asks = publish(alloc, "k1", journal, A)?;
+        text.append(asks.as_slice())?;
+        text.append(b"{\"do\":\"join\",\"broker\":{\"id\":\"k1\",\"zone\":\"z1\",\"limit\":1}}\n")?;
+        let got = replayed(alloc, text)?;
+        assert_eq!(rt; got.as_slice(), told.as_bytes(), "at {journal}");
+    }
+    Ok(())
+}
+
+// Two members are there at first. So 62 more may join, and one that expires leaves no room.
+#[test]
+fn at_most_64_members_join(rt: HostRuntime) -> Result<(), Fail> {
+    let alloc = rt.alloc();
+    let mut text = Blob::of(alloc, KINDS.as_bytes())?;
+    for n in 0..63 {
+        let line = format!(in alloc;
+            "{{\"do\":\"join\",\"consumer\":{{\"id\":\"m{n}\",\"zone\":\"z1\",\"limit\":1}}}}\n"
+        )?;
+        text.append(line.as_str().as_bytes())?;
+    }
+    text.append(b"{\"do\":\"expire\",\"member\":\"m1\"}\n")?;
+    text.append(b"{\"do\":\"join\",\"broker\":{\"id\":\"m63\",\"zone\":\"z1\",\"limit\":1}}\n")?;
+    text.append(b"{\"do\":\"join\",\"broker\":{\"id\":\"m1\",\"zone\":\"z1\",\"limit\":1}}\n")?;
+    let got = replayed(alloc, text)?;
+    let mut want = Blob::of(
+        alloc,
+        b"refused 64 members full\nrefused 66 members full\nrefused 67 name used\n",
+    )?;
+    want.append(EMPTY_KINDS.as_bytes())?;
+    assert_eq!(rt; got.as_slice(), want.as_slice());
+    Ok(())
+}
+
+// What can't be joined changes nothing.
+#[test]
+fn specifications_that_do_not_join(rt: HostRuntime) -> Result<(), Fail> {
+    let alloc = rt.alloc();
+    let lines: &[&str] = &[
+        "{\"do\":\"apply\",\"journals\":[{\"name\":\"new\"},{\"name\":\"lines\"}]}",
+        "{\"do\":\"apply\",\"journals\":[{\"name\":\"new\"}],\"shards\":[{\"id\":\"s1\",\"sources\":[{\"journal\":\"new\"}],\"recovery_log_prefix\":\"log\",\"labels\":{\"app\":[\"latest\"]}}]}",
+        "{\"do\":\"apply\"}",
+    ];
+    let got = run(alloc, KINDS, lines)?;
+    let mut want = Blob::of(alloc, b"refused 2 bad specs\nrefused 3 bad specs\n")?;
+    want.append(EMPTY_KINDS.as_bytes())?;
+    assert_eq!(rt; got.as_slice(), want.as_slice());
+    Ok(())
+}
+
+// A journal, its log and a shard come, whose id is before that of the shard that is there. It reads its source from the
+// beginning, and the other one, which is named again, goes on.
+const ADDS: &str =
+    "{\"do\":\"apply\",\"journals\":[{\"name\":\"copy\",\"labels\":{\"content-type\":[\"application/x-ndjson\"]}},{\"name\":\"recovery/a1\",\"labels\":{\"content-type\":[\"application/x-gazette-recoverylog\"]}}],\"shards\":[{\"id\":\"s1\",\"sources\":[{\"journal\":\"src/a\"}],\"recovery_log_prefix\":\"recovery\",\"labels\":{\"app\":[\"count\"],\"output\":[\"out\"]}},{\"id\":\"a1\",\"sources\":[{\"journal\":\"src/a\"}],\"recovery_log_prefix\":\"recovery\",\"labels\":{\"app\":[\"relay\"],\"output\":[\"copy\"]}}]}\n";
+
+#[test]
+fn journals_and_shards_that_are_added(rt: HostRuntime) -> Result<(), Fail> {
+    let alloc = rt.alloc();
+    let mut text = Blob::of(alloc, SPECS.as_bytes())?;
+    let first = publish(alloc, "k1", "src/a", A)?;
+    text.append(first.as_slice())?;
+    text.append(SETTLE.as_bytes())?;
+    text.append(ADDS.as_bytes())?;
+    let second = publish(alloc, "k1", "src/a", B)?;
+    text.append(second.as_slice())?;
+    text.append(SETTLE.as_bytes())?;
+    let third = publish(alloc, "k1", "copy", A)?;
+    text.append(third.as_slice())?;
+    let got = replayed(alloc, text)?;
+    let want =
+        "reply 2 k1 ok 0 70\nreply 5 k1 ok 70 140\nreply 7 k1 ok 208 278\njournal copy 278 3 -\njournal out 276 2 -\njournal src/a 140 2 -\nshard a1 1 2 caught {}\nshard s1 2 2 caught {\"a\":1,\"b\":1}\n";
+    assert_eq!(rt; got.as_slice(), want.as_bytes());
+    Ok(())
+}
+
 #[test]
 fn an_empty_input(rt: HostRuntime) -> Result<(), Fail> {
     let alloc = rt.alloc();
