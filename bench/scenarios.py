@@ -29,13 +29,13 @@ def specs(names, shards):
     return json.dumps(first, separators=(",", ":")) + "\n"
 
 
-def publish(name, first, count):
+def publish(name, first, count, producer=1):
     """A publish of so many messages, from this clock on. There are a hundred keys."""
     messages = ",".join(
         '{"flag":"outside","clock":%d,"key":"key%d","value":"1"}' % (clock, clock % 100)
         for clock in range(first, first + count)
     )
-    return '{"do":"publish","client":"k1","journal":"%s","messages":[%s]}\n' % (name, messages)
+    return '{"do":"publish","client":"k1","journal":"%s","producer":%d,"messages":[%s]}\n' % (name, producer, messages)
 
 
 def settles(out, messages):
@@ -88,3 +88,30 @@ def chain(out, messages):
         out.write(SETTLE)
     told = ["shard s%02d %d %d caught " % (i, rounds, 100 * rounds) for i in range(64)]
     return 1 + 11 * rounds, 100 * rounds, told
+
+
+def one_by_one(out, messages, producer_of):
+    """One shard that counts. A publish has one message, of the producer of its number, and a settle follows after every
+    hundredth."""
+    for number in range(1, messages + 1):
+        out.write(publish("src/a", number, 1, producer_of(number)))
+        if number % 100 == 0:
+            out.write(SETTLE)
+    return messages + messages // 100, ["shard s1 %d %d caught " % (messages // 100, messages)]
+
+
+def waiting(out, messages):
+    """The same, behind a transaction that is left open: each step reads again from its line on."""
+    out.write(specs(["out", "src/a"], [shard("s1", ["src/a"], "count", ["out"])]))
+    out.write(
+        '{"do":"publish","client":"k2","journal":"src/a","producer":2,"messages":[{"flag":"continue","clock":1}]}\n'
+    )
+    lines, told = one_by_one(out, messages, lambda number: 1)
+    return 2 + lines, messages, told
+
+
+def producers(out, messages):
+    """The same, where each message has a producer of its own: a checkpoint names all that there were."""
+    out.write(specs(["out", "src/a"], [shard("s1", ["src/a"], "count", ["out"])]))
+    lines, told = one_by_one(out, messages, lambda number: number)
+    return 1 + lines, messages, told

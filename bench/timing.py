@@ -5,7 +5,17 @@ import sys
 import time
 
 TOP = os.path.dirname(os.path.dirname(os.path.abspath(__file__)))
-RUNS = 5
+
+# whether only the least size of each work is done, once, to see that the bench runs
+SHORT = "--short" in sys.argv[1:]
+if SHORT:
+    sys.argv.remove("--short")
+
+RUNS = 1 if SHORT else 5
+
+
+def sizes_of(sizes):
+    return sizes[:1] if SHORT else sizes
 
 
 def the_program():
@@ -29,22 +39,25 @@ def start(words, path, out_path):
 
 
 def finish(pid):
-    """Waits for the program, and answers its greatest memory in KiB by the system's count."""
+    """Waits for the program, and answers what the system has counted of it."""
     _, status, usage = os.wait4(pid, 0)
     code = os.waitstatus_to_exitcode(status)
     if code != 0:
         sys.exit("the program ended with status %d" % code)
-    return usage.ru_maxrss
+    return usage
 
 
 def run_seconds(words, path, out_path):
+    """The seconds from start to end, and those for which a processor worked."""
     begin = time.monotonic()
-    finish(start(words, path, out_path))
-    return time.monotonic() - begin
+    usage = finish(start(words, path, out_path))
+    return time.monotonic() - begin, usage.ru_utime + usage.ru_stime
 
 
 def shortest(words, path, out_path):
-    return min(run_seconds(words, path, out_path) for _ in range(RUNS))
+    """The least of each over several runs."""
+    runs = [run_seconds(words, path, out_path) for _ in range(RUNS)]
+    return min(took for took, _ in runs), min(worked for _, worked in runs)
 
 
 def high_water(pid):
@@ -64,6 +77,6 @@ def run_memory(words, path, out_path):
     while os.waitid(os.P_PID, pid, os.WEXITED | os.WNOHANG | os.WNOWAIT) is None:
         seen = max(seen, high_water(pid))
         time.sleep(0.0005)
-    counted = finish(pid)
+    counted = finish(pid).ru_maxrss
     own = resource.getrusage(resource.RUSAGE_SELF).ru_maxrss
     return counted if counted > own + 1024 else seen

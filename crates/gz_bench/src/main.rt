@@ -2,22 +2,33 @@
 //! much came of the work. `bench/crates` runs it.
 #![tactic(auto)]
 
+mod agreement;
+mod journals;
+mod keys;
 mod messages;
 mod placements;
+mod specifications;
+mod transactions;
 
 use gz_label::NoMemory;
 use std::alloc::Global;
 use std::process::ExitCode;
 use std::{env, io};
 
-const USAGE: &str = "usage: gz_bench lines|place|keep COUNT";
+const USAGE: &str = "usage: gz_bench lines|feed|append|read|txn|specs|place|keep|agree COUNT";
 
 /// What came of the work, or None where there is no such work.
 fn done(alloc: Global, work: &str, count: u32) -> Result<Option<u64>, NoMemory> {
     let much = match work {
         "lines" => messages::print_and_read(alloc, count)?,
+        "feed" => transactions::feed_all(alloc, count)?,
+        "append" => journals::append_all(alloc, count)?,
+        "read" => journals::read_all(alloc, count)?,
+        "txn" => keys::write_all(alloc, count)?,
         "place" => placements::place_all(alloc, count)?,
         "keep" => placements::place_again(alloc, count)?,
+        "specs" => specifications::read_and_print(alloc, count)?,
+        "agree" => agreement::agree(alloc, count)?,
         _ => return Ok(None),
     };
     Ok(Some(much))

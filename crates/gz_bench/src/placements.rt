@@ -49,7 +49,7 @@ pub fn place_all(alloc: Global, count: u32) -> Result<u64, NoMemory> {
     let Some(problem) = problem(alloc, count)? else {
         return Ok(0);
     };
-    let none = Placement::of(Vec::new(alloc));
+    let none = Placement::none(alloc);
     let (placement, _cut) = place(alloc, &problem, &none, &none)?;
     Ok(placement.pairs().len() as u64)
 }
@@ -59,7 +59,7 @@ pub fn place_again(alloc: Global, count: u32) -> Result<u64, NoMemory> {
     let Some(problem) = problem(alloc, count)? else {
         return Ok(0);
     };
-    let none = Placement::of(Vec::new(alloc));
+    let none = Placement::none(alloc);
     let (mut placement, _cut) = place(alloc, &problem, &none, &none)?;
     for _ in 0..100 {
         let (same, _cut) = place(alloc, &problem, &placement, &none)?;
