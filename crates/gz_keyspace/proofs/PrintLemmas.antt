@@ -1,5 +1,5 @@
 -- What is printed of a member reads back.
-use Rattle.std.proofs.Common.{◌≡◌, ℕ, ◌+◌, ◌/◌, ◌%◌, ◌^◌, ◌<◌, ◌≤◌, ◌==◌, ◌&&◌, List, [], ◌∷◌, ◌++◌, length, Bool, true, false, not, cond, refl, ap, sym, ◌∙◌, Some, None, codes, decimal, nat_lt, nat_le, arith, zero, suc, All}
+use Rattle.std.proofs.Common.{◌≡◌, ℕ, ◌+◌, ◌/◌, ◌%◌, ◌^◌, ◌<◌, ◌≤◌, ◌==◌, ◌&&◌, List, [], ◌∷◌, ◌++◌, length, Bool, true, false, not, refl, ap, ◌∙◌, Some, decimal, nat_lt, nat_le, arith, zero, suc, All}
 use Rattle.std.proofs.lemmas.Bool.Decides.{nat_tests}
 use Rattle.std.proofs.lemmas.Grind.{common_steps}
 use Rattle.std.proofs.lemmas.Fmt.{digits_decimal, digits_value-decimal, decimal_by_steps}
@@ -10,8 +10,9 @@ use Rattle.std.specs.Char.{is_ascii_digit}
 use Rattle.std.specs.Str.{all_ascii_digits}
 use Rattle.gz_label.proofs.Sets.{both_left, both_right}
 use Rattle.gz_spec.specs.Names.{is_id_byte, is_id}
+use Rattle.gz_spec.specs.Valid.{is_between, is_lone_member}
 use Rattle.gz_keyspace.specs.declared.formats.Joined.{Joined}
-use Rattle.gz_keyspace.specs.Formats.{number_from, number_after, number_of, begins_as_number, words_of, is_consumer, joined_with, joined_words, joined_of, is_joined, kind_word, member_text}
+use Rattle.gz_keyspace.specs.Formats.{number_from, number_of, begins_as_number, words_of, is_consumer, joined_with, joined_words, joined_of, kind_word, member_text}
 
 -- ---- numbers
 
@@ -101,12 +102,13 @@ member_by j id zone limit = rw (id, zone, limit) refl
 at_most : (n m : ℕ) → nat_le n m ≡ true → n ≤ m
 at_most n m is = grind (arith, common_steps)
 
-pub member_reads : (j : Joined) → is_joined j ≡ true → joined_of j.spec.id (member_text j) ≡ Some j
+pub member_reads : (j : Joined) → is_lone_member j.spec ≡ true → joined_of j.spec.id (member_text j) ≡ Some j
 member_reads j is =
-    let both = both_left (is_id j.spec.id && is_id j.spec.zone) (nat_le j.spec.limit 1024) is in
-    let limit = both_right (is_id j.spec.id && is_id j.spec.zone) (nat_le j.spec.limit 1024) is in
-    let id = both_left (is_id j.spec.id) (is_id j.spec.zone) both in
-    let zone = both_right (is_id j.spec.id) (is_id j.spec.zone) both in
+    let id = both_left (is_id j.spec.id) (is_id j.spec.zone && is_between 0 1024 j.spec.limit) is in
+    let rest = both_right (is_id j.spec.id) (is_id j.spec.zone && is_between 0 1024 j.spec.limit) is in
+    let zone = both_left (is_id j.spec.zone) (is_between 0 1024 j.spec.limit) rest in
+    let range = both_right (is_id j.spec.zone) (is_between 0 1024 j.spec.limit) rest in
+    let limit = both_right (nat_le 0 j.spec.limit) (nat_le j.spec.limit 1024) range in
     let few_items : j.spec.limit ≤ 1024 = at_most j.spec.limit 1024 limit in
     let small : j.spec.limit < 2 ^ 64 = omega (arith, few_items) in
     let words : words_of (member_text j) ≡ kind_word j.consumer ∷ j.spec.zone ∷ decimal j.spec.limit ∷ [] =

@@ -84,10 +84,6 @@ joined_words id (kind ∷ zone ∷ limit ∷ word ∷ words) = None
 abbrev pub joined_of : List ℕ → List ℕ → Option Joined
 joined_of id value = joined_words id (words_of value)
 
--- a member is of the form: its id and its zone are ids, and its limit is at most 1,024
-abbrev pub is_joined : Joined → Bool
-is_joined j = is_id j.spec.id && is_id j.spec.zone && nat_le j.spec.limit 1024
-
 -- the word of a member's kind
 abbrev pub kind_word : Bool → List ℕ
 kind_word consumer = if consumer then codes "consumer" else codes "broker"

@@ -3,7 +3,8 @@ ghost use Rattle.std.specs.Prelude.{◌≡◌, IfOk, IsTrue, Some, map};
 ghost use Rattle.std.specs.List.{list_all};
 ghost use Rattle.gz_label.specs.Items.{parts_of};
 ghost use Rattle.gz_spec.specs.Names.{is_id, is_id_byte};
-ghost use Rattle.gz_keyspace.specs.Formats.{number_of, number_after, id_of, is_in, ids_in, ids_of, words_of, is_consumer, joined_with, joined_of, is_joined, kind_word, member_text};
+ghost use Rattle.gz_spec.specs.Valid.{is_lone_member};
+ghost use Rattle.gz_keyspace.specs.Formats.{number_of, number_after, id_of, is_in, ids_in, ids_of, words_of, is_consumer, joined_with, joined_of, kind_word, member_text};
 
 use gz_label::{Blob, LabelError, Name, NoMemory};
 use gz_spec::MemberSpec;
@@ -58,18 +59,6 @@ impl Ids {
 pub struct Joined {
     pub consumer: bool,
     pub spec: MemberSpec,
-}
-
-impl Joined {
-    /// Whether the member is of its form: its id and its zone have 1 to 32 letters, digits, `_` or `-`, and its limit
-    /// is at most 1,024. It takes no memory.
-    pub fn is_valid(&self) -> bool
-        ensures { result ≡ is_joined self.now }
-    {
-        let id = is_id(self.spec.id.as_slice());
-        let zone = is_id(self.spec.zone.as_slice());
-        id && zone && self.spec.limit <= MAX_LIMIT
-    }
 }
 
 /// The epoch that the value of a `sync` key says: its number in decimal, without leading zeros. None exactly where
@@ -131,10 +120,10 @@ pub fn read_joined(alloc: Global, id: &Name, value: &[u8]) -> Result<Option<Join
     Ok(joined)
 }
 
-/// The value of the `member` key of this member, which `read_joined` reads back where the member is of its form.
+/// The value of the `member` key of this member, which `read_joined` reads back.
 pub fn print_joined(alloc: Global, joined: &Joined) -> Result<Blob, NoMemory>
     ensures text { IfOk result (λ text. text ≡ member_text joined.now) }
-    ensures reads_back { IfOk result (λ text. IsTrue (is_joined joined.now) → joined_of joined.now.spec.id text ≡ Some joined.now) }
+    ensures reads_back { IfOk result (λ text. joined_of joined.now.spec.id text ≡ Some joined.now) }
 {
     let text = member_text(alloc, joined)?;
     Ok(text)
@@ -142,7 +131,8 @@ pub fn print_joined(alloc: Global, joined: &Joined) -> Result<Blob, NoMemory>
 
 // The kind, the zone and the limit of the member, with a space between each two.
 fn member_text(alloc: Global, joined: &Joined) -> Result<Blob, NoMemory>
-    ensures { IfOk result (λ text. text ≡ member_text joined.now) }
+    ensures text { IfOk result (λ text. text ≡ member_text joined.now) }
+    ensures valid { IsTrue (is_lone_member joined.now.spec) }
 {
     let limit = joined.spec.limit;
     let mut text = Blob::of(alloc, kind_word(joined.consumer))?;

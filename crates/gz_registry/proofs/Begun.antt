@@ -1,5 +1,5 @@
 -- The start: few writes, and members of different names.
-use Rattle.std.proofs.Common.{◌≡◌, ℕ, ◌+◌, ◌≤◌, ◌&&◌, ◌||◌, ◌==◌, List, [], ◌∷◌, ◌++◌, length, map, suc, refl, ap, sym, ◌∙◌, subst, Bool, true, false, not, nat_le, arith}
+use Rattle.std.proofs.Common.{◌≡◌, ℕ, ◌+◌, ◌≤◌, ◌&&◌, ◌||◌, List, [], ◌∷◌, ◌++◌, length, map, suc, refl, ap, sym, ◌∙◌, subst, Bool, true, false, not, nat_le, arith}
 use Rattle.std.specs.Prelude.{⊤}
 use Rattle.std.proofs.lemmas.Grind.{common_steps}
 use Rattle.std.proofs.lemmas.List.{length-append}
@@ -12,23 +12,18 @@ use Rattle.std.specs.Map.{values_of}
 use Rattle.std.specs.BTreeMap.{insert_entry}
 use Rattle.std.specs.Str.{bytes_eq}
 use Rattle.gz_spec.specs.Lists.{is_used}
-use Rattle.gz_spec.specs.Names.{is_id, is_reserved}
-use Rattle.gz_spec.specs.Specs.{name_of_journal, id_of_shard, id_of_member}
-use Rattle.gz_spec.specs.Valid.{is_journal, is_shard, is_member, is_between, are_fresh, are_journals, are_shards, are_members, are_specs}
-use Rattle.gz_spec.specs.declared.journal.JournalSpec.{JournalSpec}
-use Rattle.gz_spec.specs.declared.shard.ShardSpec.{ShardSpec}
-use Rattle.gz_spec.specs.declared.member.MemberSpec.{MemberSpec}
-use Rattle.gz_spec.specs.declared.cluster.Specs.{Specs}
+use Rattle.gz_spec.specs.Specs.{id_of_member}
+use Rattle.gz_spec.specs.Valid.{is_member, are_fresh, are_journals, are_shards, are_members, are_specs}
+use Rattle.gz_spec.specs.Records.{MemberSpec, Specs}
 use Rattle.gz_spec.proofs.Used.{used_parts}
 use Rattle.gz_keyspace.specs.declared.formats.Joined.{Joined}
-use Rattle.gz_keyspace.specs.Formats.{is_joined}
-use Rattle.gz_keyspace.specs.Keys.{same_key, held_at, keys_after}
+use Rattle.gz_keyspace.specs.Keys.{same_key}
 use Rattle.gz_keyspace.specs.Space.{Space, revision_of}
 use Rattle.gz_keyspace.proofs.KeyLemmas.{same_laws}
 use Rattle.gz_registry.specs.Keys.{journal_write, shard_write, member_named, put_named, in_order, writes_of, members_of}
-use Rattle.gz_registry.specs.Registered.{Member, seen, each_written, was_member, IsApart, AreNew, OnlyMembers}
+use Rattle.gz_registry.specs.Registered.{seen, each_written, IsApart, AreNew, OnlyMembers}
 use Rattle.gz_registry.proofs.Forms.{left, right}
-use Rattle.gz_registry.proofs.Orders.{Each, Values, inserted, of_values, each_in_order, each_append, all_of_each, in_order_count}
+use Rattle.gz_registry.proofs.Orders.{Each, Values, inserted, of_values, each_in_order, each_append, in_order_count}
 use Rattle.gz_registry.proofs.Members.{only_after_each}
 use Rattle.gz_registry.proofs.Elsewhere.{writes_elsewhere}
 use Rattle.gz_registry.proofs.Spaces.{written_revision}
@@ -88,28 +83,6 @@ few_members specs is =
     let same_bs = map_count (member_named false) specs.brokers in
     let same_cs = map_count (member_named true) specs.consumers in
     omega (arith, few, both, few_bs, few_cs, same_bs, same_cs)
-
--- ---- each is of its form
-
-joined_by : (id reserved zone low limit : Bool) → (id && (not reserved && (zone && (low && limit)))) ≡ true → ((id && zone) && limit) ≡ true
-joined_by true true zone low limit is = absurd (cc)
-joined_by true false true true limit is = is
-joined_by true false true false limit is = absurd (cc)
-joined_by true false false low limit is = absurd (cc)
-joined_by false reserved zone low limit is = absurd (cc)
-
-valid_all : (consumer : Bool) (ms : List MemberSpec) → list_all is_member ms ≡ true → Values (λ j. is_joined j ≡ true) (map (member_named consumer) ms)
-valid_all consumer [] all = tt
-valid_all consumer (m ∷ ms) all =
-    (joined_by (is_id m.id) (is_reserved m.id) (is_id m.zone) (nat_le 0 m.limit) (nat_le m.limit 1024) (left (is_member m) (list_all is_member ms) all), valid_all consumer ms (right (is_member m) (list_all is_member ms) all))
-
-pub valid_members : (specs : Specs) → are_specs specs ≡ true → list_all is_joined (members_of specs) ≡ true
-valid_members specs is =
-    let good = are_good specs is in
-    all_of_each is_joined (members_of specs)
-    (each_append (λ j. is_joined j ≡ true) (in_order (map (member_named false) specs.brokers)) (in_order (map (member_named true) specs.consumers))
-    (each_in_order (λ j. is_joined j ≡ true) (map (member_named false) specs.brokers) (valid_all false specs.brokers good.brokers))
-    (each_in_order (λ j. is_joined j ≡ true) (map (member_named true) specs.consumers) (valid_all true specs.consumers good.consumers)))
 
 -- ---- names that differ
 
@@ -257,8 +230,7 @@ new_members specs is =
 pub only_begun : (specs : Specs) (keys : Space) → keys ≡ each_written (writes_of specs) (record { changes = []; leases = [] }) → OnlyMembers (seen keys [])
 only_begun specs keys is = subst (λ (k : Space). OnlyMembers (seen k [])) (sym is) (only_after_each (writes_of specs) (record { changes = []; leases = [] }) [] (writes_elsewhere specs) (λ id none. refl))
 
-pub begun_revision : (specs : Specs) (keys : Space) → are_specs specs ≡ true → keys ≡ each_written (writes_of specs) (record { changes = []; leases = [] }) → revision_of keys.changes ≤ 1280
-begun_revision specs keys valid is =
+pub begun_revision : (specs : Specs) (keys : Space) → length (writes_of specs) ≤ 1280 → keys ≡ each_written (writes_of specs) (record { changes = []; leases = [] }) → revision_of keys.changes ≤ 1280
+begun_revision specs keys few is =
     let count = ap (λ (k : Space). revision_of k.changes) is ∙ written_revision (writes_of specs) (record { changes = []; leases = [] }) in
-    let few = few_writes specs valid in
     omega (arith, count, few)

@@ -1,9 +1,7 @@
 -- Specifications write no member's key.
 use Rattle.std.proofs.Common.{◌≡◌, ℕ, List, [], ◌∷◌, map, refl}
 use Rattle.gz_label.specs.declared.keys.KeyWrite.{KeyWrite}
-use Rattle.gz_spec.specs.declared.journal.JournalSpec.{JournalSpec}
-use Rattle.gz_spec.specs.declared.shard.ShardSpec.{ShardSpec}
-use Rattle.gz_spec.specs.declared.cluster.Specs.{Specs}
+use Rattle.gz_spec.specs.Records.{JournalSpec, ShardSpec, Specs}
 use Rattle.gz_keyspace.specs.Space.{Space, after_txn}
 use Rattle.gz_registry.specs.Keys.{member_key, journal_write, shard_write, in_order, writes_of}
 use Rattle.gz_registry.specs.Registered.{Member, OnlyMembers}

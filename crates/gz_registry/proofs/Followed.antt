@@ -5,7 +5,7 @@ use Rattle.gz_label.specs.declared.keys.KeyWrite.{KeyWrite}
 use Rattle.gz_label.specs.declared.keys.Change.{Change}
 use Rattle.gz_keyspace.specs.Keys.{after_writes, keys_after, IsNumbered}
 use Rattle.gz_keyspace.specs.Mirrors.{Mirrored, applied}
-use Rattle.gz_keyspace.specs.Space.{Space, revision_of, with_change, after_txn, after_expire, without_key, key_of_lease}
+use Rattle.gz_keyspace.specs.Space.{Space, revision_of, after_txn}
 use Rattle.gz_keyspace.proofs.KeyLemmas.{after_changes-snoc}
 use Rattle.std.proofs.Math.ListN.{drop_of_length-le}
 use Rattle.gz_keyspace.proofs.SpaceLemmas.{later}

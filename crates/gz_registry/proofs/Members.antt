@@ -1,6 +1,5 @@
 -- Everyone who ever joined.
-use Rattle.std.proofs.Common.{◌≡◌, ℕ, ◌+◌, ◌≤◌, List, [], ◌∷◌, ◌++◌, length, map, suc, cond, not, refl, ap, sym, ◌∙◌, Bool, true, false, Option, Some, None, Ok, Err, subst, is_some, true≢false}
-use Rattle.std.specs.Prelude.{⊤}
+use Rattle.std.proofs.Common.{◌≡◌, ℕ, ◌+◌, List, [], ◌∷◌, ◌++◌, length, suc, cond, not, refl, ap, sym, ◌∙◌, Bool, true, false, Option, Some, None, Err, subst, is_some}
 use Rattle.std.proofs.lemmas.List.{length-append}
 use Rattle.std.specs.Map.{lookup}
 use Rattle.gz_label.specs.declared.keys.KeyWrite.{KeyWrite}

@@ -1,12 +1,12 @@
 -- What a key space answers.
-use Rattle.std.proofs.Common.{◌≡◌, ◌≢◌, ℕ, ◌+◌, ◌==◌, ◌<◌, ◌≤◌, List, [], ◌∷◌, ◌++◌, length, cond, refl, ap, sym, ◌∙◌, Bool, true, false, Option, Some, None, Result, Ok, Err, arith, is_ok, is_err}
+use Rattle.std.proofs.Common.{◌≡◌, ℕ, ◌+◌, ◌==◌, ◌<◌, List, [], ◌∷◌, length, cond, refl, ap, ◌∙◌, Bool, true, false, Result, Ok, Err, arith}
 use Rattle.std.proofs.lemmas.Bool.Decides.{nat_tests}
 use Rattle.std.proofs.lemmas.List.{length-append}
 use Rattle.gz_label.specs.declared.keys.KeyWrite.{KeyWrite}
 use Rattle.gz_label.specs.declared.keys.Change.{Change}
 use Rattle.gz_keyspace.specs.declared.error.KeyError.{KeyError}
 use Rattle.gz_keyspace.specs.declared.error.KeyError.TheVariants.{KeysEnd}
-use Rattle.gz_keyspace.specs.Space.{Space, last_revision, revision_of, next_revision, made_revision, with_change, after_txn}
+use Rattle.gz_keyspace.specs.Space.{Space, last_revision, revision_of, next_revision, with_change, after_txn}
 use Rattle.gz_registry.specs.Registered.{each_written}
 
 room_by : (n : ℕ) (b : Bool) → b ≡ (n == last_revision) → n < last_revision → cond b (let e : Result ℕ KeyError = Err KeysEnd in e) (Ok (n + 1)) ≡ Ok (n + 1)

@@ -1,15 +1,11 @@
 -- The start: members that join one after another.
-use Rattle.std.proofs.Common.{◌≡◌, ℕ, ◌+◌, ◌<◌, ◌≤◌, ◌&&◌, List, [], ◌∷◌, ◌++◌, length, map, drop, drop-cons, get_or, add-one, suc, refl, ap, sym, ◌∙◌, subst, Bool, true, false, not, arith}
-use Rattle.std.specs.Prelude.{⊤}
-use Rattle.std.specs.List.{list_all}
+use Rattle.std.proofs.Common.{◌≡◌, ℕ, ◌+◌, ◌<◌, List, [], ◌∷◌, ◌++◌, length, drop, drop-cons, get_or, add-one, refl, ap, sym, ◌∙◌, subst, false, arith}
 use Rattle.gz_keyspace.specs.declared.formats.Joined.{Joined}
-use Rattle.gz_keyspace.specs.Formats.{is_joined, member_text}
-use Rattle.gz_keyspace.specs.Keys.{same_key}
+use Rattle.gz_keyspace.specs.Formats.{member_text}
 use Rattle.gz_keyspace.specs.Space.{revision_of, put_of}
 use Rattle.gz_keyspace.proofs.KeyLemmas.{same_laws}
 use Rattle.gz_registry.specs.Keys.{member_key}
 use Rattle.gz_registry.specs.Registered.{Member, Registered, was_member, after_join, each_joined, OnlyMembers, AreNew, IsApart}
-use Rattle.gz_registry.proofs.Forms.{left, right}
 use Rattle.gz_registry.proofs.Members.{still_none, only_after_join}
 use Rattle.gz_registry.proofs.Spaces.{longer}
 
@@ -23,29 +19,24 @@ cut joined i j within is = rw (drop-cons joined i j within, ← is, add-one i) r
 
 -- what is known of the next one that joins
 pub next_joins : (joined : List Joined) (i : ℕ) (j : Joined) (members : List Member) → i < length joined → j ≡ get_or joined i j
-    → list_all is_joined (drop i joined) ≡ true → AreNew (drop i joined) members → (is_joined j ≡ true) × (was_member j.spec.id members ≡ false)
-next_joins joined i j members within is form new =
-    let c = cut joined i j within is in
-    (left (is_joined j) (list_all is_joined (drop (i + 1) joined)) (rw c at form), (subst (λ (js : List Joined). AreNew js members) c new).0)
+    → AreNew (drop i joined) members → was_member j.spec.id members ≡ false
+next_joins joined i j members within is new = (subst (λ (js : List Joined). AreNew js members) (cut joined i j within is) new).0
 
 join_revision : (j : Joined) (r new : Registered) → new ≡ after_join j r → revision_of new.keys.changes ≡ revision_of r.keys.changes + 1
 join_revision j r new is = ap (λ (s : Registered). revision_of s.keys.changes) is ∙ longer (put_of (member_key j.spec.id) (member_text j) ∷ []) r.keys.changes
 
 -- what is known once it has joined
 pub has_joined : (joined : List Joined) (i n : ℕ) (j : Joined) (r new all : Registered) → i < length joined → j ≡ get_or joined i j → new ≡ after_join j r
-    → each_joined (drop i joined) r ≡ all → list_all is_joined (drop i joined) ≡ true → AreNew (drop i joined) r.members → OnlyMembers r → revision_of r.keys.changes ≡ n + i
-    → (each_joined (drop (i + 1) joined) new ≡ all) × ((list_all is_joined (drop (i + 1) joined) ≡ true) × (AreNew (drop (i + 1) joined) new.members × (OnlyMembers new × (revision_of new.keys.changes ≡ n + (i + 1)))))
-has_joined joined i n j r new all within is new_is value form fresh only count =
+    → each_joined (drop i joined) r ≡ all → AreNew (drop i joined) r.members → OnlyMembers r → revision_of r.keys.changes ≡ n + i
+    → (each_joined (drop (i + 1) joined) new ≡ all) × (AreNew (drop (i + 1) joined) new.members × (OnlyMembers new × (revision_of new.keys.changes ≡ n + (i + 1))))
+has_joined joined i n j r new all within is new_is value fresh only count =
     let c = cut joined i j within is in
     let here = subst (λ (js : List Joined). AreNew js r.members) c fresh in
     let more = join_revision j r new new_is in
     let rest : each_joined (drop (i + 1) joined) (after_join j r) ≡ all = ap (λ (js : List Joined). each_joined js r) (sym c) ∙ value in (
       ap (each_joined (drop (i + 1) joined)) new_is ∙ rest,
       (
-        right (is_joined j) (list_all is_joined (drop (i + 1) joined)) (rw c at form),
-        (
-          subst (λ (s : Registered). AreNew (drop (i + 1) joined) s.members) (sym new_is) (new_more (drop (i + 1) joined) r.members _ here.2 here.1),
-          (subst OnlyMembers (sym new_is) (only_after_join j r only), omega (arith, more, count)),
-        ),
+        subst (λ (s : Registered). AreNew (drop (i + 1) joined) s.members) (sym new_is) (new_more (drop (i + 1) joined) r.members _ here.2 here.1),
+        (subst OnlyMembers (sym new_is) (only_after_join j r only), omega (arith, more, count)),
       ),
     )

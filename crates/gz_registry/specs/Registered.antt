@@ -2,7 +2,7 @@
 use Rattle.std.specs.Prelude.{◌≡◌, ℕ, ◌+◌, ◌++◌, List, [], ◌∷◌, length, map, take, ⊤, Bool, false, Option, Some, None, is_some, Result, Ok, Err, if◌then◌else◌, nat_le}
 use Rattle.gz_label.specs.declared.keys.Change.{Change}
 use Rattle.gz_label.specs.declared.keys.KeyWrite.{KeyWrite}
-use Rattle.gz_spec.specs.declared.cluster.Specs.{Specs}
+use Rattle.gz_spec.specs.Records.{Specs}
 use Rattle.gz_keyspace.specs.declared.error.KeyError.{KeyError}
 use Rattle.gz_keyspace.specs.declared.formats.Joined.{Joined}
 use Rattle.gz_keyspace.specs.Formats.{member_text}

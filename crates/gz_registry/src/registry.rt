@@ -1,7 +1,5 @@
 //! A cluster's key space with its members.
 ghost use Rattle.std.specs.Prelude.{◌≡◌, ◌<◌, ◌^◌, false, IfOk, OnOk, IsTrue, option_map};
-ghost use Rattle.gz_spec.specs.Valid.{are_specs};
-ghost use Rattle.gz_keyspace.specs.Formats.{is_joined};
 ghost use Rattle.gz_keyspace.specs.Keys.{held_at, keys_after};
 ghost use Rattle.gz_keyspace.specs.Space.{revision_of};
 ghost use Rattle.gz_registry.specs.Registered.{was_member, put_answer, after_put, join_answer, after_join, expire_answer, after_expiry, registry_start, mirror_of};
@@ -57,7 +55,6 @@ impl Registry {
     /// shards in the order of their ids, each in a transaction of its own, and then a grant for each broker and for
     /// each consumer, in the order of their ids.
     pub fn start(alloc: Global, specs: &Specs) -> Result<Registry, NoMemory>
-        requires { IsTrue (are_specs specs.now) }
         ensures { IfOk result (λ registry. registry ≡ registry_start specs.now) }
     {
         let mut keys = start_keys(alloc, specs)?;
@@ -109,7 +106,6 @@ impl Registry {
     /// neither. KeysEnd where it names some and the revision is 2^40 - 1. After a refusal nothing has changed; where
     /// memory runs out nothing is known of what is left.
     pub fn put(&mut self, part: &Specs) -> Result<u64, RegistryError>
-        requires { IsTrue (are_specs part.now) }
         ensures answer { Gives result (put_answer part.now self.old) }
         ensures ok { OnOk result (self.new ≡ after_put part.now self.old) }
         ensures refused { OnRefusal result (self.new ≡ self.old) }
@@ -131,7 +127,6 @@ impl Registry {
     /// MembersFull where 64 have joined; else KeysEnd where the revision is 2^40 - 1. After a refusal nothing has
     /// changed; where memory runs out nothing is known of what is left.
     pub fn join(&mut self, joined: &Joined) -> Result<u64, RegistryError>
-        requires form { IsTrue (is_joined joined.now) }
         requires new { was_member joined.now.spec.id self.old.members ≡ false }
         ensures answer { Gives result (join_answer self.old) }
         ensures ok { OnOk result (self.new ≡ after_join joined.now self.old) }

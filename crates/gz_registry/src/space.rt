@@ -3,7 +3,6 @@ ghost use Rattle.std.specs.Prelude.{◌≡◌, ◌+◌, ◌<◌, ◌≤◌, ◌+
 ghost use Rattle.std.specs.List.{list_all};
 ghost use Rattle.std.specs.Map.{lookup};
 ghost use Rattle.indexmap.specs.IndexMap.{spare};
-ghost use Rattle.gz_keyspace.specs.Formats.{is_joined};
 ghost use Rattle.gz_keyspace.specs.Keys.{same_key, held_at, keys_after};
 ghost use Rattle.gz_keyspace.specs.Space.{last_revision, revision_of, next_revision, made_revision, after_txn, after_grant, after_expire, key_of_lease};
 ghost use Rattle.gz_registry.specs.Outcomes.{Gives};
@@ -91,13 +90,12 @@ fn add_member(members: &mut IndexMap<Name, u64>, id: Name, lease: u64)
 }
 
 /// A member joins: its key is granted, and it goes behind the others.
-#[tactic(auto, using(crate::proofs::Forms::short_joined, crate::proofs::Members::absent, crate::proofs::Members::absent_key, crate::proofs::Members::joined_is))]
+#[tactic(auto, using(crate::proofs::Forms::short_member, crate::proofs::Members::absent, crate::proofs::Members::absent_key, crate::proofs::Members::joined_is))]
 pub fn admit(
     keys: &mut KeySpace,
     members: &mut IndexMap<Name, u64>,
     joined: &Joined,
 ) -> Result<u64, RegistryError>
-    requires form { IsTrue (is_joined joined.now) }
     requires new { was_member joined.now.spec.id (members_in members.old.entries) ≡ false }
     requires only { OnlyMembers (seen keys.old members.old.entries) }
     ensures answer { Gives result (told (next_revision keys.old.changes)) }
@@ -144,7 +142,6 @@ fn admit_one(
     members: &mut IndexMap<Name, u64>,
     joined: &Joined,
 ) -> Result<(), NoMemory>
-    requires form { IsTrue (is_joined joined.now) }
     requires new { was_member joined.now.spec.id (members_in members.old.entries) ≡ false }
     requires only { OnlyMembers (seen keys.old members.old.entries) }
     requires room { revision_of keys.old.changes < last_revision }
@@ -163,7 +160,6 @@ pub fn admit_each(
     members: &mut IndexMap<Name, u64>,
     joined: &[Joined],
 ) -> Result<(), NoMemory>
-    requires form { IsTrue (list_all is_joined joined.now) }
     requires new { AreNew joined.now (members_in members.old.entries) }
     requires only { OnlyMembers (seen keys.old members.old.entries) }
     requires room { revision_of keys.old.changes + length joined.now ≤ last_revision }

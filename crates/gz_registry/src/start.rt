@@ -1,6 +1,5 @@
 //! What a cluster starts with.
 ghost use Rattle.std.specs.Prelude.{◌≡◌, ◌≤◌, [], IfOk, OnOk, IsTrue};
-ghost use Rattle.gz_spec.specs.Valid.{are_specs};
 ghost use Rattle.gz_keyspace.specs.Space.{revision_of};
 ghost use Rattle.gz_registry.specs.Keys.{writes_of, members_of};
 ghost use Rattle.gz_registry.specs.Registered.{seen, each_written, each_joined, OnlyMembers};
@@ -14,9 +13,8 @@ use indexmap::IndexMap;
 use std::alloc::Global;
 
 /// The key space with the writes of the specifications, each in a transaction of its own.
-#[tactic(auto, using(crate::proofs::Begun::few_writes, crate::proofs::Begun::only_begun, crate::proofs::Begun::begun_revision))]
+#[tactic(auto, using(crate::proofs::Begun::only_begun, crate::proofs::Begun::begun_revision))]
 pub fn start_keys(alloc: Global, specs: &Specs) -> Result<KeySpace, NoMemory>
-    requires { IsTrue (are_specs specs.now) }
     ensures value { IfOk result (λ keys. keys ≡ each_written (writes_of specs.now) (record { changes = []; leases = [] })) }
     ensures only { IfOk result (λ keys. OnlyMembers (seen keys [])) }
     ensures few { IfOk result (λ keys. revision_of keys.changes ≤ 1280) }
@@ -28,13 +26,11 @@ pub fn start_keys(alloc: Global, specs: &Specs) -> Result<KeySpace, NoMemory>
 }
 
 /// The members of the specifications join a key space that has none.
-#[tactic(auto, using(crate::proofs::Begun::few_members, crate::proofs::Begun::valid_members, crate::proofs::Begun::new_members))]
 pub fn start_members(
     alloc: Global,
     keys: &mut KeySpace,
     specs: &Specs,
 ) -> Result<IndexMap<Name, u64>, NoMemory>
-    requires valid { IsTrue (are_specs specs.now) }
     requires only { OnlyMembers (seen keys.old []) }
     requires few { revision_of keys.old.changes ≤ 1280 }
     ensures value { IfOk result (λ members. seen keys.new members.entries ≡ each_joined (members_of specs.now) (seen keys.old [])) }

@@ -1,9 +1,9 @@
 // Each answer of the calls, once, and what mirrors show.
 
 use crate::{Registry, RegistryError};
-use gz_keyspace::{Joined, Mirror};
+use gz_keyspace::{Joined, Mirror, read_joined};
 use gz_label::Name;
-use gz_spec::{MemberSpec, read_part};
+use gz_spec::{Specs, read_part};
 use std::alloc::Global;
 use std::test::Fail;
 
@@ -14,8 +14,14 @@ const START: &str =
 // Another journal, and the first one as it was.
 const MORE: &str = "{\"journals\":[{\"name\":\"c\"},{\"name\":\"b\"}]}";
 
+// What the text says. It has no clauses, so that no proof computes that.
+fn specs_of(alloc: Global, text: &str) -> Result<Specs, Fail> {
+    let specs = read_part(alloc, text.as_bytes())?;
+    Ok(specs)
+}
+
 fn begun(alloc: Global) -> Result<Registry, Fail> {
-    let specs = read_part(alloc, START.as_bytes())?;
+    let specs = specs_of(alloc, START)?;
     let registry = Registry::start(alloc, &specs)?;
     Ok(registry)
 }
@@ -23,11 +29,10 @@ fn begun(alloc: Global) -> Result<Registry, Fail> {
 // A broker of this id.
 fn broker(alloc: Global, id: &[u8]) -> Result<Joined, Fail> {
     let id = Name::read(alloc, id)?;
-    let zone = Name::of(alloc, "z")?;
-    Ok(Joined {
-        consumer: false,
-        spec: MemberSpec { id, zone, limit: 1 },
-    })
+    let Some(joined) = read_joined(alloc, &id, b"broker z 1")? else {
+        return Err(Fail::new("not the id of a member"));
+    };
+    Ok(joined)
 }
 
 // Whether the mirror shows what the registry's key space has at the key.
@@ -71,7 +76,7 @@ fn starts(rt: HostRuntime) -> Result<(), Fail> {
 fn puts(rt: HostRuntime) -> Result<(), Fail> {
     let alloc = rt.alloc();
     let mut registry = begun(alloc)?;
-    let part = read_part(alloc, MORE.as_bytes())?;
+    let part = specs_of(alloc, MORE)?;
     assert_eq!(rt; registry.put(&part)?, 4);
     assert!(rt; shows(alloc, &registry, &Name::of(alloc, "m2")?)?);
     Ok(())
@@ -97,7 +102,7 @@ fn joins(rt: HostRuntime) -> Result<(), Fail> {
     let mut registry = begun(alloc)?;
     for number in 0..63u8 {
         let joined = broker(alloc, &[b'n', b'0' + number / 10, b'0' + number % 10])?;
-        if joined.is_valid() && !registry.was_member(&joined.spec.id) {
+        if !registry.was_member(&joined.spec.id) {
             let answer = registry.join(&joined);
             assert_eq!(rt;
                 matches!(&answer, Err(RegistryError::MembersFull)),

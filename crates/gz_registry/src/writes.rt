@@ -1,9 +1,8 @@
 //! What a cluster puts into its key space.
 ghost use Rattle.std.specs.Prelude.{◌≡◌, ◌+◌, ◌≤◌, ◌++◌, [], length, map, false, true, IfOk, IsTrue};
-ghost use Rattle.std.specs.List.{list_all};
 ghost use Rattle.std.specs.Map.{values_of};
-ghost use Rattle.gz_spec.specs.Valid.{is_journal, is_shard, is_member, are_specs};
 ghost use Rattle.gz_registry.specs.Keys.{member_key, journal_put, shard_put, journal_write, shard_write, member_named, put_named, in_order, writes_of, members_of};
+ghost use Rattle.gz_registry.specs.Registered.{AreNew};
 
 use gz_keyspace::Joined;
 use gz_label::{Blob, KeyWrite, Name, NoMemory, Writes};
@@ -32,9 +31,7 @@ pub fn member_key(alloc: Global, id: &Name) -> Result<Name, NoMemory>
 }
 
 // The write of a journal.
-#[tactic(auto, using(crate::proofs::Forms::short_journal))]
 fn journal_put(alloc: Global, journal: &JournalSpec) -> Result<KeyWrite, NoMemory>
-    requires { IsTrue (is_journal journal.now) }
     ensures { IfOk result (λ write. write ≡ journal_put journal.now) }
 {
     let key = key_of(alloc, "journal/", &journal.name)?;
@@ -46,9 +43,7 @@ fn journal_put(alloc: Global, journal: &JournalSpec) -> Result<KeyWrite, NoMemor
 }
 
 // The write of a shard.
-#[tactic(auto, using(crate::proofs::Forms::short_shard))]
 fn shard_put(alloc: Global, shard: &ShardSpec) -> Result<KeyWrite, NoMemory>
-    requires { IsTrue (is_shard shard.now) }
     ensures { IfOk result (λ write. write ≡ shard_put shard.now) }
 {
     let key = key_of(alloc, "shard/", &shard.id)?;
@@ -60,12 +55,10 @@ fn shard_put(alloc: Global, shard: &ShardSpec) -> Result<KeyWrite, NoMemory>
 }
 
 // The writes of the journals, by their names.
-#[tactic(auto, using(crate::proofs::Forms::each_here))]
 fn journal_table(
     alloc: Global,
     journals: &[JournalSpec],
 ) -> Result<BTreeMap<Name, KeyWrite>, NoMemory>
-    requires { IsTrue (list_all is_journal journals.now) }
     ensures { IfOk result (λ table. table.entries ≡ put_named (map journal_write journals.now) []) }
 {
     let mut table = BTreeMap::new(alloc);
@@ -77,9 +70,7 @@ fn journal_table(
 }
 
 // The writes of the shards, by their ids.
-#[tactic(auto, using(crate::proofs::Forms::each_here))]
 fn shard_table(alloc: Global, shards: &[ShardSpec]) -> Result<BTreeMap<Name, KeyWrite>, NoMemory>
-    requires { IsTrue (list_all is_shard shards.now) }
     ensures { IfOk result (λ table. table.entries ≡ put_named (map shard_write shards.now) []) }
 {
     let mut table = BTreeMap::new(alloc);
@@ -120,11 +111,12 @@ fn members_in(alloc: Global, table: BTreeMap<Name, Joined>) -> Result<Vec<Joined
     table.into_values().collect(alloc)
 }
 
-/// The writes of all journals in the order of their names, and then those of all shards in the order of their ids.
-#[tactic(auto, using(crate::proofs::Forms::all_journals, crate::proofs::Forms::all_shards))]
+/// The writes of all journals in the order of their names, and then those of all shards in the order of their ids:
+/// at most 1,280.
+#[tactic(auto, using(crate::proofs::Begun::few_writes))]
 pub fn writes_of(alloc: Global, specs: &Specs) -> Result<Writes, NoMemory>
-    requires { IsTrue (are_specs specs.now) }
-    ensures { IfOk result (λ writes. writes ≡ writes_of specs.now) }
+    ensures value { IfOk result (λ writes. writes ≡ writes_of specs.now) }
+    ensures few { length (writes_of specs.now) ≤ 1280 }
 {
     let journals = journal_table(alloc, specs.journals.as_slice())?;
     let shards = shard_table(alloc, specs.shards.as_slice())?;
@@ -134,9 +126,12 @@ pub fn writes_of(alloc: Global, specs: &Specs) -> Result<Writes, NoMemory>
     Ok(Writes::from_vec(writes))
 }
 
-/// All brokers in the order of their ids, and then all consumers in theirs.
+/// All brokers in the order of their ids, and then all consumers in theirs: at most 64, no two of one id.
+#[tactic(auto, using(crate::proofs::Begun::few_members, crate::proofs::Begun::new_members))]
 pub fn members_of(alloc: Global, specs: &Specs) -> Result<Vec<Joined>, NoMemory>
-    ensures { IfOk result (λ members. members.items ≡ members_of specs.now) }
+    ensures value { IfOk result (λ members. members.items ≡ members_of specs.now) }
+    ensures few { length (members_of specs.now) ≤ 64 }
+    ensures new { AreNew (members_of specs.now) [] }
 {
     let brokers = member_table(alloc, false, specs.brokers.as_slice())?;
     let consumers = member_table(alloc, true, specs.consumers.as_slice())?;

@@ -15,8 +15,7 @@ use Rattle.gz_spec.specs.Form.{found, has_only, name_at, number_from, number_at,
 use Rattle.gz_spec.specs.Members.{member_names, member_with, member_at}
 use Rattle.gz_spec.specs.Specs.{journals_in, shards_in, part_of, whole, specs_of}
 use Rattle.gz_spec.specs.Valid.{is_between, are_specs}
-use Rattle.gz_spec.specs.declared.member.MemberSpec.{MemberSpec}
-use Rattle.gz_spec.specs.declared.cluster.Specs.{Specs}
+use Rattle.gz_spec.specs.Records.{MemberSpec, Specs}
 use Rattle.gz_spec.specs.declared.error.SpecError.{SpecError}
 use Rattle.gz_spec.specs.declared.error.SpecError.TheVariants.{BadNumber}
 use Rattle.gz_spec.proofs.Readable.{step, same_ok, chosen, name_good, number_good, number_or_good}

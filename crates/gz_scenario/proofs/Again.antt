@@ -17,8 +17,7 @@ use Rattle.gz_spec.specs.Form.{has_only}
 use Rattle.gz_spec.specs.Members.{member_with, member_at}
 use Rattle.gz_spec.specs.Specs.{journals_in, shards_in, whole, specs_of}
 use Rattle.gz_spec.specs.Valid.{is_between, are_journals, are_shards, are_specs}
-use Rattle.gz_spec.specs.declared.member.MemberSpec.{MemberSpec}
-use Rattle.gz_spec.specs.declared.cluster.Specs.{Specs}
+use Rattle.gz_spec.specs.Records.{MemberSpec, Specs}
 use Rattle.gz_spec.specs.declared.error.SpecError.{SpecError}
 use Rattle.gz_spec.proofs.Whole.{whole_good}
 use Rattle.gz_spec.proofs.SpecsBack.{journals_back, shards_back}

@@ -10,7 +10,7 @@ use Rattle.gz_spec.specs.Paths.{below, at_place}
 use Rattle.gz_spec.specs.Form.{found, has_only, text_at, name_at, number_at, number_or, items_at}
 use Rattle.gz_spec.specs.Members.{member_at}
 use Rattle.gz_spec.specs.Specs.{journals_in, shards_in, specs_of}
-use Rattle.gz_spec.specs.declared.cluster.Specs.{Specs}
+use Rattle.gz_spec.specs.Records.{Specs}
 use Rattle.gz_spec.specs.declared.error.SpecError.{SpecError}
 use Rattle.gz_spec.specs.declared.error.SpecError.TheVariants as spec
 use Rattle.gz_scenario.specs.Refusals.{on_line}

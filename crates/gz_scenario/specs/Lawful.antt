@@ -5,8 +5,7 @@ use Rattle.std.specs.Str.{is_utf8}
 use Rattle.gz_spec.specs.Names.{is_id, is_journal_name}
 use Rattle.gz_spec.specs.Specs.{whole}
 use Rattle.gz_spec.specs.Valid.{is_between, are_specs}
-use Rattle.gz_spec.specs.declared.member.MemberSpec.{MemberSpec}
-use Rattle.gz_spec.specs.declared.cluster.Specs.{Specs}
+use Rattle.gz_spec.specs.Records.{MemberSpec, Specs}
 use Rattle.gz_scenario.specs.Events.{max_key, max_value, max_clock, max_producer}
 use Rattle.gz_scenario.specs.declared.event.Draft.{Draft}
 use Rattle.gz_scenario.specs.declared.event.Publish.{Publish}

@@ -6,8 +6,7 @@ use Rattle.std.proofs.Math.Nat.{le-max_left, le-max_right}
 use Rattle.std.proofs.lemmas.Bool.{and_parts, or_cases}
 use Rattle.std.proofs.lemmas.Grind.{common_steps}
 use Rattle.std.proofs.lemmas.Slice.Eq.{bytes_eq-Decides}
-use Rattle.gz_spec.specs.declared.source.SourceSpec.{SourceSpec}
-use Rattle.gz_spec.specs.declared.shard.ShardSpec.{ShardSpec}
+use Rattle.gz_spec.specs.Records.{SourceSpec, ShardSpec}
 use Rattle.gz_spec.specs.Links.{outputs_of}
 use Rattle.gz_spec.specs.Cycles.{feeds_if, Reaches, next, through, first_cycle, closed, fed_rows, flag}
 use Rattle.gz_spec.specs.Levels.{greatest, climbs, all_climb}

@@ -6,9 +6,7 @@ use Rattle.serde_json.specs.Data.{Data, string, Members, no_members, member, put
 use Rattle.serde_json.specs.View.{items_of}
 use Rattle.serde_json.specs.Written.{has_float, items_have_float, members_have_float}
 use Rattle.gz_label.specs.declared.label.Label.{Label}
-use Rattle.gz_spec.specs.declared.journal.JournalSpec.{JournalSpec}
-use Rattle.gz_spec.specs.declared.shard.ShardSpec.{ShardSpec}
-use Rattle.gz_spec.specs.declared.cluster.Specs.{Specs}
+use Rattle.gz_spec.specs.Records.{JournalSpec, ShardSpec, Specs}
 use Rattle.gz_spec.specs.Printed.{values_in_front, label_members, journal_data, source_data, shard_data, member_data, four_lists, specs_data, specs_data_as}
 
 none_first : (b c : Bool) → (b || c) ≡ false → b ≡ false

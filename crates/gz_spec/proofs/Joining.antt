@@ -1,13 +1,11 @@
 -- Valid specifications that are joined are valid.
-use Rattle.std.proofs.Common.{◌≡◌, ℕ, ap, ◌&&◌, ◌||◌, List, [], ◌∷◌, ◌++◌, map, filter, length, refl, sym, subst, ◌∙◌, append_assoc, append-nil, cond, Bool, true, false, not, nat_le, Ok, Option, Some, None}
+use Rattle.std.proofs.Common.{◌≡◌, ℕ, ◌&&◌, ◌||◌, List, [], ◌∷◌, ◌++◌, map, filter, length, refl, sym, subst, ◌∙◌, append_assoc, append-nil, cond, Bool, true, false, not, nat_le, Ok, Option, Some, None}
 use Rattle.std.specs.Prelude.{codes, is_some, unwrap_or}
 use Rattle.std.specs.List.{list_all}
 use Rattle.std.specs.Str.{bytes_eq}
 use Rattle.std.proofs.lemmas.Bool.{and_parts, not-true}
 use Rattle.std.proofs.lemmas.Slice.Eq.{bytes_eq-Decides}
-use Rattle.gz_spec.specs.declared.journal.JournalSpec.{JournalSpec}
-use Rattle.gz_spec.specs.declared.shard.ShardSpec.{ShardSpec}
-use Rattle.gz_spec.specs.declared.cluster.Specs.{Specs}
+use Rattle.gz_spec.specs.Records.{JournalSpec, ShardSpec, MemberSpec, Specs}
 use Rattle.gz_spec.specs.Lists.{no_more_than, is_used}
 use Rattle.gz_spec.specs.Specs.{name_of_journal, id_of_shard}
 use Rattle.gz_spec.specs.Links.{are_linked}
@@ -250,16 +248,33 @@ pub join_is_ranked : (specs more out : Specs) → are_specs specs ≡ true → a
 join_is_ranked specs more out p q is =
     whole_is_ranked out (join_is_valid specs more out p q is) (join_parts specs more out is).judged.acyclic
 
--- joined, with neither list too long
-pub joined_is_valid : (specs more out : Specs) (journals : List JournalSpec) (shards : List ShardSpec)
-    (first last : List ℕ) (u v : Unit {0}) → out ≡ both_of specs more
-    → journals ≡ out.journals → no_more_than 1024 first (length journals) ≡ Ok u → shards ≡ out.shards
-    → no_more_than 256 last (length shards) ≡ Ok v
-    → are_specs specs ≡ true → are_specs more ≡ true → are_specs out ≡ true
-joined_is_valid specs more out journals shards first last u v is js few ss short p q =
-    let P : Specs → Type 0 = λ s. are_specs s ≡ true in
-    let J : List JournalSpec → Type 0 = λ xs. nat_le (length xs) 1024 ≡ true in
-    let S : List ShardSpec → Type 0 = λ xs. nat_le (length xs) 256 ≡ true in
-    subst P (sym is) (both_good specs more p q
-    (subst J (js ∙ ap (λ (s : Specs). s.journals) is) (few_good 1024 first (length journals) u few))
-    (subst S (ss ∙ ap (λ (s : Specs). s.shards) is) (few_good 256 last (length shards) v short)))
+-- journals that are joined, not too many
+pub journals_joined : (old more js : List JournalSpec) (path : List ℕ) (u : Unit {0})
+    → js ≡ joined name_of_journal old more → no_more_than 1024 path (length js) ≡ Ok u
+    → are_journals old ≡ true → are_journals more ≡ true → are_journals js ≡ true
+journals_joined old more js path u is few p q =
+    let both_are = joined_good name_of_journal is_journal old more (and_parts (nat_le (length old) 1024) _ p).1
+    (and_parts (nat_le (length more) 1024) _ q).1 in
+    both (nat_le (length js) 1024) _ (few_good 1024 path (length js) u few) (rw is both_are)
+
+pub shards_joined : (old more ss : List ShardSpec) (path : List ℕ) (u : Unit {0})
+    → ss ≡ joined id_of_shard old more → no_more_than 256 path (length ss) ≡ Ok u
+    → are_shards old ≡ true → are_shards more ≡ true → are_shards ss ≡ true
+shards_joined old more ss path u is few p q =
+    let both_are = joined_good id_of_shard is_shard old more (and_parts (nat_le (length old) 256) _ p).1
+    (and_parts (nat_le (length more) 256) _ q).1 in
+    both (nat_le (length ss) 256) _ (few_good 256 path (length ss) u few) (rw is both_are)
+
+-- the lists of both, each good, with the members that were there
+pub specs_joined : (specs more : Specs) (js : List JournalSpec) (ss : List ShardSpec) (bs cs : List MemberSpec)
+    → are_specs specs ≡ true → are_specs more ≡ true
+    → (are_journals specs.journals ≡ true → are_journals more.journals ≡ true → are_journals js ≡ true)
+    → (are_shards specs.shards ≡ true → are_shards more.shards ≡ true → are_shards ss ≡ true)
+    → bs ≡ specs.brokers → cs ≡ specs.consumers
+    → are_specs (record { journals = js; shards = ss; brokers = bs; consumers = cs }) ≡ true
+specs_joined specs more js ss bs cs p q j s b c =
+    let old_js = and_parts (are_journals specs.journals) _ p in
+    let old_ss = and_parts (are_shards specs.shards) _ old_js.1 in
+    let new_js = and_parts (are_journals more.journals) _ q in
+    let new_ss = and_parts (are_shards more.shards) _ new_js.1 in
+    both (are_journals js) _ (j old_js.0 new_js.0) (both (are_shards ss) _ (s old_ss.0 new_ss.0) (rw (b, c) old_ss.1))

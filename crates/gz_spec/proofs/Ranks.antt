@@ -4,7 +4,7 @@ use Rattle.std.specs.List.{IsAmong}
 use Rattle.std.specs.Str.{bytes_eq}
 use Rattle.std.proofs.lemmas.Bool.{cases_order, and_parts, not-true}
 use Rattle.std.proofs.lemmas.Option.{slice_get_read}
-use Rattle.gz_spec.specs.declared.shard.ShardSpec.{ShardSpec}
+use Rattle.gz_spec.specs.Records.{ShardSpec}
 use Rattle.gz_spec.specs.Lists.{is_used}
 use Rattle.gz_spec.specs.Specs.{id_of_shard}
 use Rattle.gz_spec.specs.Valid.{are_fresh}

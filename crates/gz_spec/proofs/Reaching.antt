@@ -2,7 +2,7 @@
 use Rattle.std.proofs.Common.{◌≡◌, ℕ, zero, suc, ◌+◌, ◌<◌, ◌≤◌, inl, inr, ◌&&◌, ◌||◌, List, [], ◌∷◌, map, length, refl, sym, ap, ◌∙◌, subst, cond, arith, Option, Some, None, Bool, true, false, slice_get}
 use Rattle.std.proofs.lemmas.Bool.{or_cases, cases_order}
 use Rattle.std.proofs.lemmas.Option.{slice_get_within}
-use Rattle.gz_spec.specs.declared.shard.ShardSpec.{ShardSpec}
+use Rattle.gz_spec.specs.Records.{ShardSpec}
 use Rattle.gz_spec.specs.Cycles.{feeds, feeds_if, feeds_at, Reaches, next, through, IsToldCycle, bit, row, rest_of, either, widened, widened_all, closed, fed_rows, first_from, flag, first_cycle, IsToldFirst}
 
 -- ---- tests

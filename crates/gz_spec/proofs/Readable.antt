@@ -13,7 +13,7 @@ use Rattle.gz_label.specs.declared.name.LabelError.TheVariants as cause
 use Rattle.gz_label.proofs.Sets.{is_label_set-put}
 use Rattle.gz_spec.specs.declared.error.SpecError.{SpecError}
 use Rattle.gz_spec.specs.declared.error.SpecError.TheVariants.{BadName, BadNumber}
-use Rattle.gz_spec.specs.declared.journal.JournalSpec.{JournalSpec}
+use Rattle.gz_spec.specs.Records.{JournalSpec}
 use Rattle.gz_spec.specs.Paths.{below}
 use Rattle.gz_spec.specs.Names.{is_journal_name}
 use Rattle.gz_spec.specs.Form.{found, has_only, named, text_at, name_at, in_range, number_from, number_if, number_or}
@@ -152,3 +152,12 @@ journal_at_good path d j is =
     let h = step (has_only path journal_members d) (λ _. name_at is_journal_name path (codes "name") d >>= λ name. journal_with path name d) j is in
     let n = step (name_at is_journal_name path (codes "name") d) (λ name. journal_with path name d) j h.2 in
     (journal_with_good path n.0 d j (name_good is_journal_name path (codes "name") n.0 d n.1) n.2).0
+
+-- ---- what is made of what was read
+
+pub journal_made : (path name : List ℕ) (d : Data) (replication : ℕ) (labels : List Label) (bytes : ℕ) → is_journal_name name ≡ true
+    → number_or 1 1 5 path (codes "replication") d ≡ Ok replication → labels_at path d ≡ Ok labels → fragment_at path d ≡ Ok bytes
+    → is_journal (journal_from name replication labels bytes) ≡ true
+unfolding journal_with
+journal_made path name d replication labels bytes good r l f =
+    (journal_with_good path name d (journal_from name replication labels bytes) good (rw (r, l, f) refl)).0

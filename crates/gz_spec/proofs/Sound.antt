@@ -12,11 +12,7 @@ use Rattle.gz_spec.specs.declared.error.SpecError.{SpecError}
 use Rattle.gz_spec.specs.declared.error.SpecError.TheVariants.{BadField, BadName, BadNumber, Twice}
 use Rattle.gz_spec.specs.declared.app.App.{App}
 use Rattle.gz_spec.specs.declared.app.App.TheVariants.{Count, Relay, Latest}
-use Rattle.gz_spec.specs.declared.journal.JournalSpec.{JournalSpec}
-use Rattle.gz_spec.specs.declared.source.SourceSpec.{SourceSpec}
-use Rattle.gz_spec.specs.declared.shard.ShardSpec.{ShardSpec}
-use Rattle.gz_spec.specs.declared.member.MemberSpec.{MemberSpec}
-use Rattle.gz_spec.specs.declared.cluster.Specs.{Specs}
+use Rattle.gz_spec.specs.Records.{JournalSpec, SourceSpec, ShardSpec, MemberSpec, Specs}
 use Rattle.gz_spec.specs.Paths.{below, at_place}
 use Rattle.gz_spec.specs.Names.{is_id, is_reserved, is_journal_name, is_hint_prefix}
 use Rattle.gz_spec.specs.Form.{value_of, found, has_only, named, name_at, name_if, name_or, number_or, number_at, flag_or, items_at, items_or_none}
@@ -26,7 +22,7 @@ use Rattle.gz_spec.specs.Journals.{journal_members, next_journal}
 use Rattle.gz_spec.specs.Shards.{source_members, next_source, journal_named, not_empty, sources_at, app_of, outputs_fit, labels_fit, shard_members, shard_with, shard_at, next_shard, shard_of}
 use Rattle.gz_spec.specs.Members.{member_names, member_with, not_reserved, next_member}
 use Rattle.gz_spec.specs.Specs.{specs_members, name_of_journal, id_of_shard, id_of_member, journals_in, shards_in, members_in, part_in, part_of}
-use Rattle.gz_spec.specs.Valid.{is_between, are_fresh, is_journal, is_source, app_takes, are_shard_labels, are_sources, is_shard, is_member, are_journals, are_shards, are_members, are_specs}
+use Rattle.gz_spec.specs.Valid.{is_between, are_fresh, is_journal, is_source, app_takes, are_shard_labels, are_sources, is_shard, is_lone_member, is_member, are_journals, are_shards, are_members, are_specs}
 use Rattle.gz_spec.proofs.Readable.{step, same_ok, chosen, named_good, name_good, number_good, number_or_good, labels_good, journal_with_good}
 
 -- ---- steps
@@ -253,26 +249,38 @@ next_member_good path used d m is =
 
 -- ---- the four lists
 
+-- journals that were read from a list that isn't too long
+pub journals_read : (path : List ℕ) (items : Items) (u : Unit {0}) (js : List JournalSpec)
+    → no_more_than 1024 path (count items) ≡ Ok u → each next_journal name_of_journal path 0 [] items ≡ Ok js
+    → are_journals js ≡ true
+journals_read path items u js few is =
+    let read = each_good next_journal name_of_journal is_journal next_journal_good items path 0 [] js is in
+    let P : ℕ → Type 0 = λ n. nat_le n 1024 ≡ true in
+    both (nat_le (length js) 1024) _ (subst P (sym read.many) (few_good 1024 path (count items) u few))
+    (both (list_all is_journal js) (are_fresh name_of_journal [] js) read.all read.fresh)
+
+pub shards_read : (path : List ℕ) (items : Items) (u : Unit {0}) (ss : List ShardSpec)
+    → no_more_than 256 path (count items) ≡ Ok u → each next_shard id_of_shard path 0 [] items ≡ Ok ss
+    → are_shards ss ≡ true
+shards_read path items u ss few is =
+    let read = each_good next_shard id_of_shard is_shard next_shard_good items path 0 [] ss is in
+    let P : ℕ → Type 0 = λ n. nat_le n 256 ≡ true in
+    both (nat_le (length ss) 256) _ (subst P (sym read.many) (few_good 256 path (count items) u few))
+    (both (list_all is_shard ss) (are_fresh id_of_shard [] ss) read.all read.fresh)
+
 pub journals_good : (d : Data) (js : List JournalSpec) → journals_in d ≡ Ok js → are_journals js ≡ true
 unfolding journals_in
 journals_good d js is =
     let items = step (items_or_none [] (codes "journals") d) _ js is in
     let few = step (no_more_than 1024 (codes "journals") (count items.0)) _ js items.2 in
-    let read = each_good next_journal name_of_journal is_journal next_journal_good items.0
-    (codes "journals") 0 [] js few.2 in
-    let P : ℕ → Type 0 = λ n. nat_le n 1024 ≡ true in
-    both (nat_le (length js) 1024) _ (subst P (sym read.many) (few_good 1024 (codes "journals") (count items.0) few.0 few.1))
-    (both (list_all is_journal js) (are_fresh name_of_journal [] js) read.all read.fresh)
+    journals_read (codes "journals") items.0 few.0 js few.1 few.2
 
 pub shards_good : (d : Data) (ss : List ShardSpec) → shards_in d ≡ Ok ss → are_shards ss ≡ true
 unfolding shards_in
 shards_good d ss is =
     let items = step (items_or_none [] (codes "shards") d) _ ss is in
     let few = step (no_more_than 256 (codes "shards") (count items.0)) _ ss items.2 in
-    let read = each_good next_shard id_of_shard is_shard next_shard_good items.0 (codes "shards") 0 [] ss few.2 in
-    let P : ℕ → Type 0 = λ n. nat_le n 256 ≡ true in
-    both (nat_le (length ss) 256) _ (subst P (sym read.many) (few_good 256 (codes "shards") (count items.0) few.0 few.1))
-    (both (list_all is_shard ss) (are_fresh id_of_shard [] ss) read.all read.fresh)
+    shards_read (codes "shards") items.0 few.0 ss few.1 few.2
 
 members_good : (name : List ℕ) (used : List (List ℕ)) (d : Data) (ms : List MemberSpec)
     → members_in name used d ≡ Ok ms → are_members used ms ≡ true
@@ -307,3 +315,64 @@ unfolding part_of
 part_is_valid bytes specs is =
     let v = step (value_of bytes) _ specs is in
     part_in_good v.0 specs v.2
+
+-- ---- what is made of what was read
+
+pub source_made : (path name : List ℕ) (d : Data) (min_offset : ℕ) → name_at is_journal_name path (codes "journal") d ≡ Ok name
+    → number_or 0 0 (2 ^ 62) path (codes "min_offset") d ≡ Ok min_offset
+    → is_source (record { journal = name; min_offset = min_offset }) ≡ true
+source_made path name d min_offset n o =
+    both (is_journal_name name) (is_between 0 (2 ^ 62) min_offset) (name_good is_journal_name path (codes "journal") name d n)
+    (number_or_good 0 0 (2 ^ 62) (below path (codes "min_offset")) (get (codes "min_offset") d) min_offset refl o)
+
+pub shard_made : (path id : List ℕ) (d : Data) (sources : List SourceSpec) (log hint : List ℕ) (backups standbys : ℕ) (disable : Bool)
+    (labels : List Label) (u : Unit {0}) → is_id id ≡ true → sources_at path d ≡ Ok sources
+    → name_at is_journal_name path (codes "recovery_log_prefix") d ≡ Ok log
+    → name_or is_hint_prefix (codes "hint") path (codes "hint_prefix") d ≡ Ok hint
+    → number_or 0 0 4 path (codes "hint_backups") d ≡ Ok backups
+    → number_or 0 0 4 path (codes "hot_standbys") d ≡ Ok standbys
+    → flag_or false path (codes "disable") d ≡ Ok disable → labels_at path d ≡ Ok labels
+    → labels_fit (below path (codes "labels")) labels ≡ Ok u
+    → is_shard (record {
+      id = id;
+      sources = sources;
+      recovery_log_prefix = log;
+      hint_prefix = hint;
+      hint_backups = backups;
+      hot_standbys = standbys;
+      disable = disable;
+      labels = labels;
+    }) ≡ true
+unfolding shard_with
+shard_made path id d sources log hint backups standbys disable labels u good s l h b t f ls fit =
+    (shard_with_good path id d (record {
+      id = id;
+      sources = sources;
+      recovery_log_prefix = log;
+      hint_prefix = hint;
+      hint_backups = backups;
+      hot_standbys = standbys;
+      disable = disable;
+      labels = labels;
+    }) good (rw (s, l, h, b, t, f, ls, fit) refl)).0
+
+pub lone_member_made : (path id : List ℕ) (d : Data) (zone : List ℕ) (limit : ℕ) → is_id id ≡ true
+    → name_at is_id path (codes "zone") d ≡ Ok zone → number_at 0 1024 path (codes "limit") d ≡ Ok limit
+    → is_lone_member (record { id = id; zone = zone; limit = limit }) ≡ true
+lone_member_made path id d zone limit good z l =
+    both (is_id id) _ good (both (is_id zone) (is_between 0 1024 limit) (name_good is_id path (codes "zone") zone d z)
+    (limit_good path d limit l))
+
+pub part_made : (d : Data) (js : List JournalSpec) (ss : List ShardSpec) (bs cs : List MemberSpec) (us vs : List (List ℕ))
+    → journals_in d ≡ Ok js → shards_in d ≡ Ok ss → us ≡ [] → members_in (codes "brokers") us d ≡ Ok bs
+    → vs ≡ us ++ map id_of_member bs → members_in (codes "consumers") vs d ≡ Ok cs
+    → are_specs (record { journals = js; shards = ss; brokers = bs; consumers = cs }) ≡ true
+part_made d js ss bs cs us vs j s none b more c =
+    let P : List (List ℕ) → Type 0 = λ names. members_in (codes "brokers") names d ≡ Ok bs in
+    let Q : List (List ℕ) → Type 0 = λ names. members_in (codes "consumers") (names ++ map id_of_member bs) d ≡ Ok cs in
+    let R : List (List ℕ) → Type 0 = λ names. members_in (codes "consumers") names d ≡ Ok cs in
+    both (are_journals js) _ (journals_good d js j)
+    (both (are_shards ss) _ (shards_good d ss s)
+    (both (are_members [] bs) (are_members (map id_of_member bs) cs)
+    (members_good (codes "brokers") [] d bs (subst P none b))
+    (members_good (codes "consumers") (map id_of_member bs) d cs (subst Q none (subst R more c)))))

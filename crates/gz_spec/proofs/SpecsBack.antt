@@ -14,11 +14,7 @@ use Rattle.gz_label.specs.declared.label.Label.{Label}
 use Rattle.gz_spec.specs.declared.error.SpecError.{SpecError}
 use Rattle.gz_spec.specs.declared.app.App.{App}
 use Rattle.gz_spec.specs.declared.app.App.TheVariants.{Count, Relay, Latest}
-use Rattle.gz_spec.specs.declared.journal.JournalSpec.{JournalSpec}
-use Rattle.gz_spec.specs.declared.source.SourceSpec.{SourceSpec}
-use Rattle.gz_spec.specs.declared.shard.ShardSpec.{ShardSpec}
-use Rattle.gz_spec.specs.declared.member.MemberSpec.{MemberSpec}
-use Rattle.gz_spec.specs.declared.cluster.Specs.{Specs}
+use Rattle.gz_spec.specs.Records.{JournalSpec, SourceSpec, ShardSpec, MemberSpec, Specs}
 use Rattle.gz_spec.specs.Paths.{below, at_place}
 use Rattle.gz_spec.specs.Names.{is_id, is_reserved, is_journal_name, is_hint_prefix}
 use Rattle.gz_spec.specs.Form.{found}

@@ -5,10 +5,7 @@ use Rattle.std.specs.List.{list_all, IsAmong}
 use Rattle.std.proofs.lemmas.Bool.{and_parts}
 use Rattle.gz_spec.specs.declared.error.SpecError.{SpecError}
 use Rattle.gz_spec.specs.declared.error.SpecError.TheVariants.{NoJournal}
-use Rattle.gz_spec.specs.declared.journal.JournalSpec.{JournalSpec}
-use Rattle.gz_spec.specs.declared.source.SourceSpec.{SourceSpec}
-use Rattle.gz_spec.specs.declared.shard.ShardSpec.{ShardSpec}
-use Rattle.gz_spec.specs.declared.cluster.Specs.{Specs}
+use Rattle.gz_spec.specs.Records.{JournalSpec, SourceSpec, ShardSpec, Specs}
 use Rattle.gz_spec.specs.Paths.{below, at_place}
 use Rattle.gz_spec.specs.Links.{held, is_readable, is_lines, is_log, sources_linked, log_name, log_linked, outputs_of, shard_linked, all_linked, is_linked, are_linked}
 use Rattle.gz_spec.specs.Cycles.{first_cycle, AreRanked}

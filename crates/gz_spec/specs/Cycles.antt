@@ -3,7 +3,7 @@ use Rattle.std.specs.Prelude.{◌≡◌, ℕ, zero, suc, ◌<◌, ◌||◌, List
 use Rattle.std.specs.List.{list_any, IsAmong}
 use Rattle.std.specs.Str.{bytes_eq}
 use Rattle.gz_spec.specs.Links.{outputs_of}
-use Rattle.gz_spec.specs.declared.shard.ShardSpec.{ShardSpec}
+use Rattle.gz_spec.specs.Records.{ShardSpec}
 
 -- ---- in words
 

@@ -10,8 +10,7 @@ use Rattle.gz_spec.specs.Lists.{no_more_than}
 use Rattle.gz_spec.specs.Specs.{name_of_journal, id_of_shard, whole}
 use Rattle.gz_spec.specs.declared.error.SpecError.{SpecError}
 use Rattle.gz_spec.specs.declared.error.SpecError.TheVariants.{BadField}
-use Rattle.gz_spec.specs.declared.journal.JournalSpec.{JournalSpec}
-use Rattle.gz_spec.specs.declared.cluster.Specs.{Specs}
+use Rattle.gz_spec.specs.Records.{JournalSpec, Specs}
 
 -- ---- lists of things with names
 

@@ -11,7 +11,7 @@ use Rattle.gz_spec.specs.Labels.{labels_at}
 use Rattle.gz_spec.specs.Lists.{unused}
 use Rattle.gz_spec.specs.declared.error.SpecError.{SpecError}
 use Rattle.gz_spec.specs.declared.error.SpecError.TheVariants.{Codec}
-use Rattle.gz_spec.specs.declared.journal.JournalSpec.{JournalSpec}
+use Rattle.gz_spec.specs.Records.{JournalSpec}
 
 abbrev pub journal_members : List (List ℕ)
 journal_members = codes "name" ∷ codes "replication" ∷ codes "labels" ∷ codes "fragment" ∷ []

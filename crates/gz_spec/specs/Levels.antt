@@ -3,8 +3,7 @@ use Rattle.std.specs.Prelude.{ℕ, List, [], ◌∷◌, Bool, max, nat_lt, posit
 use Rattle.std.specs.List.{list_all}
 use Rattle.std.specs.Str.{bytes_eq}
 use Rattle.gz_spec.specs.Links.{outputs_of}
-use Rattle.gz_spec.specs.declared.source.SourceSpec.{SourceSpec}
-use Rattle.gz_spec.specs.declared.shard.ShardSpec.{ShardSpec}
+use Rattle.gz_spec.specs.Records.{SourceSpec, ShardSpec}
 
 -- the level of the journal of this name, where the journals' levels stand in their order; that of any other is 0
 abbrev pub level_of : List (List ℕ) → List ℕ → List ℕ → ℕ

@@ -1,3 +1,4 @@
+pub mod Records
 pub mod Outcomes
 pub mod Paths
 pub mod Form

@@ -8,7 +8,7 @@ use Rattle.gz_spec.specs.Lists.{unused}
 use Rattle.gz_spec.specs.Form.{value_of, has_only, name_at, number_at}
 use Rattle.gz_spec.specs.declared.error.SpecError.{SpecError}
 use Rattle.gz_spec.specs.declared.error.SpecError.TheVariants.{BadName}
-use Rattle.gz_spec.specs.declared.member.MemberSpec.{MemberSpec}
+use Rattle.gz_spec.specs.Records.{MemberSpec}
 
 abbrev pub member_names : List (List ℕ)
 member_names = codes "id" ∷ codes "zone" ∷ codes "limit" ∷ []

@@ -14,8 +14,7 @@ use Rattle.gz_spec.specs.declared.error.SpecError.{SpecError}
 use Rattle.gz_spec.specs.declared.error.SpecError.TheVariants.{BadField}
 use Rattle.gz_spec.specs.declared.app.App.{App}
 use Rattle.gz_spec.specs.declared.app.App.TheVariants.{Count, Relay, Latest}
-use Rattle.gz_spec.specs.declared.source.SourceSpec.{SourceSpec}
-use Rattle.gz_spec.specs.declared.shard.ShardSpec.{ShardSpec}
+use Rattle.gz_spec.specs.Records.{SourceSpec, ShardSpec}
 
 -- ---- sources
 

@@ -12,10 +12,7 @@ use Rattle.gz_spec.specs.Links.{all_linked}
 use Rattle.gz_spec.specs.Cycles.{first_cycle}
 use Rattle.gz_spec.specs.declared.error.SpecError.{SpecError}
 use Rattle.gz_spec.specs.declared.error.SpecError.TheVariants.{Cycle}
-use Rattle.gz_spec.specs.declared.journal.JournalSpec.{JournalSpec}
-use Rattle.gz_spec.specs.declared.shard.ShardSpec.{ShardSpec}
-use Rattle.gz_spec.specs.declared.member.MemberSpec.{MemberSpec}
-use Rattle.gz_spec.specs.declared.cluster.Specs.{Specs}
+use Rattle.gz_spec.specs.Records.{JournalSpec, ShardSpec, MemberSpec, Specs}
 
 abbrev pub specs_members : List (List ℕ)
 specs_members = codes "do" ∷ codes "journals" ∷ codes "shards" ∷ codes "brokers" ∷ codes "consumers" ∷ []

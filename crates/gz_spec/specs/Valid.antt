@@ -9,11 +9,7 @@ use Rattle.gz_spec.specs.Shards.{app_of, journal_named}
 use Rattle.gz_spec.specs.Specs.{name_of_journal, id_of_shard, id_of_member}
 use Rattle.gz_spec.specs.declared.app.App.{App}
 use Rattle.gz_spec.specs.declared.app.App.TheVariants.{Count, Relay, Latest}
-use Rattle.gz_spec.specs.declared.journal.JournalSpec.{JournalSpec}
-use Rattle.gz_spec.specs.declared.source.SourceSpec.{SourceSpec}
-use Rattle.gz_spec.specs.declared.shard.ShardSpec.{ShardSpec}
-use Rattle.gz_spec.specs.declared.member.MemberSpec.{MemberSpec}
-use Rattle.gz_spec.specs.declared.cluster.Specs.{Specs}
+use Rattle.gz_spec.specs.Records.{JournalSpec, SourceSpec, ShardSpec, MemberSpec, Specs}
 
 abbrev pub is_between : ℕ → ℕ → ℕ → Bool
 is_between least most n = nat_le least n && nat_le n most
@@ -50,6 +46,11 @@ is_shard s =
     is_id s.id && (are_sources s.sources && (is_journal_name s.recovery_log_prefix && (is_hint_prefix s.hint_prefix
     && (is_between 0 4 s.hint_backups && (is_between 0 4 s.hot_standbys && (is_label_set s.labels && are_shard_labels s.labels))))))
 
+-- a member by itself, of a reserved id too
+abbrev pub is_lone_member : MemberSpec → Bool
+is_lone_member m = is_id m.id && (is_id m.zone && is_between 0 1024 m.limit)
+
+-- a member of a cluster
 abbrev pub is_member : MemberSpec → Bool
 is_member m = is_id m.id && (not (is_reserved m.id) && (is_id m.zone && is_between 0 1024 m.limit))
 

@@ -7,8 +7,8 @@ ghost use Rattle.gz_spec.specs.Journals.{next_journal};
 ghost use Rattle.gz_spec.specs.Shards.{next_shard};
 ghost use Rattle.gz_spec.specs.Members.{next_member};
 ghost use Rattle.gz_spec.specs.Specs.{name_of_journal, id_of_shard, id_of_member, journals_in, shards_in, members_in, part_in, part_of, acyclic, whole, specs_of};
-ghost use Rattle.gz_spec.specs.Valid.{are_specs};
-ghost use Rattle.gz_spec.specs.Joins.{both_of, join_of};
+ghost use Rattle.gz_spec.specs.Valid.{are_journals, are_shards, are_specs};
+ghost use Rattle.gz_spec.specs.Joins.{joined, join_of};
 ghost use Rattle.gz_spec.specs.Cycles.{first_cycle, IsToldCycle};
 
 use crate::SpecError;
@@ -44,7 +44,7 @@ pub struct Journals {
 
 impl Model for Journals {
     ghost use Rattle.std.specs.Prelude.{List};
-    ghost use Rattle.gz_spec.specs.declared.journal.JournalSpec.{JournalSpec};
+    ghost use Rattle.gz_spec.specs.Records.{JournalSpec};
 
     ghost Value = { List JournalSpec };
 
@@ -77,6 +77,10 @@ impl Journals {
         self.journals
     }
 
+    fn allocator(&self) -> Global {
+        *self.journals.allocator()
+    }
+
     /// The journals. It takes no memory.
     pub fn as_slice(&self) -> &[JournalSpec]
         ensures { result.now ≡ self.now }
@@ -101,7 +105,7 @@ pub struct Shards {
 
 impl Model for Shards {
     ghost use Rattle.std.specs.Prelude.{List};
-    ghost use Rattle.gz_spec.specs.declared.shard.ShardSpec.{ShardSpec};
+    ghost use Rattle.gz_spec.specs.Records.{ShardSpec};
 
     ghost Value = { List ShardSpec };
 
@@ -158,7 +162,7 @@ pub struct Members {
 
 impl Model for Members {
     ghost use Rattle.std.specs.Prelude.{List};
-    ghost use Rattle.gz_spec.specs.declared.member.MemberSpec.{MemberSpec};
+    ghost use Rattle.gz_spec.specs.Records.{MemberSpec};
 
     ghost Value = { List MemberSpec };
 
@@ -207,7 +211,9 @@ impl Members {
     }
 }
 
-/// The journals, shards and members of a cluster, each list in the order in which it was given.
+/// The journals, shards and members of a cluster, each list in the order in which it was given. Whatever is of this
+/// type is valid: whether each journal that a shard names is there, and whether shards reach themselves, is all that
+/// is left to ask.
 #[derive(Debug, Drop)]
 pub struct Specs {
     /// At most 1,024, no two of one name.
@@ -217,6 +223,18 @@ pub struct Specs {
     /// With the consumers at most 64, no two of one id, and none reserved.
     pub brokers: Members,
     pub consumers: Members,
+}
+
+impl Model for Specs {
+    ghost use Rattle.std.specs.Prelude.{IsTrue};
+    ghost use Rattle.gz_spec.specs.Records.{Specs as Seen};
+    ghost use Rattle.gz_spec.specs.Valid.{are_specs};
+
+    ghost Value = { Seen };
+
+    ghost view = { λ a. record { journals = a.journals; shards = a.shards; brokers = a.brokers; consumers = a.consumers } };
+
+    ghost invariant = { λ a. IsTrue (are_specs (record { journals = a.journals; shards = a.shards; brokers = a.brokers; consumers = a.consumers })) };
 }
 
 fn read_each_journal(alloc: Global, path: &Blob, values: &[Value]) -> Result<Journals, SpecError>
@@ -235,7 +253,8 @@ fn read_each_journal(alloc: Global, path: &Blob, values: &[Value]) -> Result<Jou
 /// The journals of the object's member `journals`, and none where it is absent.
 #[tactic(auto, unfolding(crate::specs::Specs::journals_in))]
 pub fn read_journals(alloc: Global, value: &Value) -> Result<Journals, SpecError>
-    ensures { Gives (λ js. js) result (journals_in (view value.now)) }
+    ensures gives { Gives (λ js. js) result (journals_in (view value.now)) }
+    ensures valid { IfOk result (λ js. IsTrue (are_journals js)) }
 {
     let values = read_items_or_none(alloc, &Blob::new(alloc), value, "journals")?;
     let path = Blob::of(alloc, b"journals")?;
@@ -261,7 +280,8 @@ fn read_each_shard(alloc: Global, path: &Blob, values: &[Value]) -> Result<Shard
 /// name are there isn't asked.
 #[tactic(auto, unfolding(crate::specs::Specs::shards_in))]
 pub fn read_shards(alloc: Global, value: &Value) -> Result<Shards, SpecError>
-    ensures { Gives (λ ss. ss) result (shards_in (view value.now)) }
+    ensures gives { Gives (λ ss. ss) result (shards_in (view value.now)) }
+    ensures valid { IfOk result (λ ss. IsTrue (are_shards ss)) }
 {
     let values = read_items_or_none(alloc, &Blob::new(alloc), value, "shards")?;
     let path = Blob::of(alloc, b"shards")?;
@@ -394,6 +414,30 @@ pub fn read_specs(alloc: Global, bytes: &[u8]) -> Result<Specs, SpecError>
     Ok(specs)
 }
 
+/// The journals of both. BadNumber where there are more than 1,024.
+fn join_journals(alloc: Global, old: &Journals, more: &Journals) -> Result<Journals, SpecError>
+    ensures gives { Gives (λ _. tt) result (no_more_than 1024 (codes "journals") (length (joined name_of_journal old.now more.now))) }
+    ensures both { IfOk result (λ js. js ≡ joined name_of_journal old.now more.now) }
+    ensures valid { IfOk result (λ js. IsTrue (are_journals old.now) → IsTrue (are_journals more.now) → IsTrue (are_journals js)) }
+{
+    let both = joined_journals(alloc, old.as_slice(), more.as_slice())?;
+    let journals = Journals::of(both);
+    refuse_more(alloc, "journals", journals.as_slice().len(), MAX_JOURNALS)?;
+    Ok(journals)
+}
+
+/// The shards of both. BadNumber where there are more than 256.
+fn join_shards(alloc: Global, old: &Shards, more: &Shards) -> Result<Shards, SpecError>
+    ensures gives { Gives (λ _. tt) result (no_more_than 256 (codes "shards") (length (joined id_of_shard old.now more.now))) }
+    ensures both { IfOk result (λ ss. ss ≡ joined id_of_shard old.now more.now) }
+    ensures valid { IfOk result (λ ss. IsTrue (are_shards old.now) → IsTrue (are_shards more.now) → IsTrue (are_shards ss)) }
+{
+    let both = joined_shards(alloc, old.as_slice(), more.as_slice())?;
+    let shards = Shards::of(both);
+    refuse_more(alloc, "shards", shards.as_slice().len(), MAX_SHARDS)?;
+    Ok(shards)
+}
+
 impl Specs {
     /// An equal value.
     pub fn copy(&self) -> Result<Specs, NoMemory>
@@ -407,40 +451,23 @@ impl Specs {
         })
     }
 
-    /// The journals and shards of both, whatever they are as a whole.
-    fn both(&self, alloc: Global, more: &Specs) -> Result<Specs, NoMemory>
-        ensures { IfOk result (λ specs. specs ≡ both_of self.now more.now) }
-    {
-        let journals = joined_journals(alloc, self.journals.as_slice(), more.journals.as_slice())?;
-        let shards = joined_shards(alloc, self.shards.as_slice(), more.shards.as_slice())?;
-        Ok(Specs {
-            journals: Journals::of(journals),
-            shards: Shards::of(shards),
-            brokers: self.brokers.copy()?,
-            consumers: self.consumers.copy()?,
-        })
-    }
-
     /// These with the journals and shards of `more`: one of a name that is there replaces it in its place,
     /// and the new ones follow in their order. The members stay. BadField with the path of the labels in
     /// `more` where the values of a replaced journal's label `content-type` would change; else BadNumber
-    /// where there would be more than 1,024 journals or 256 shards; then NoJournal and Cycle, of all. Where both
-    /// are valid, as what is read is, so are these.
+    /// where there would be more than 1,024 journals or 256 shards; then NoJournal and Cycle, of all.
     #[tactic(auto, unfolding(crate::specs::Joins::join_of))]
     pub fn join(&self, more: &Specs) -> Result<Specs, SpecError>
         ensures gives { Gives (λ specs. specs) result (join_of self.now more.now) }
-        ensures valid { IfOk result (λ specs. IsTrue (are_specs self.now) → IsTrue (are_specs more.now) → IsTrue (are_specs specs)) }
+        ensures valid { IfOk result (λ specs. IsTrue (are_specs specs)) }
     {
-        let alloc = *self.journals.journals.allocator();
+        let alloc = self.journals.allocator();
         refuse_changed(alloc, self.journals.as_slice(), more.journals.as_slice())?;
-        let specs = self.both(alloc, more)?;
-        refuse_more(
-            alloc,
-            "journals",
-            specs.journals.as_slice().len(),
-            MAX_JOURNALS,
-        )?;
-        refuse_more(alloc, "shards", specs.shards.as_slice().len(), MAX_SHARDS)?;
+        let specs = Specs {
+            journals: join_journals(alloc, &self.journals, &more.journals)?,
+            shards: join_shards(alloc, &self.shards, &more.shards)?,
+            brokers: self.brokers.copy()?,
+            consumers: self.consumers.copy()?,
+        };
         refuse_broken(alloc, &specs)?;
         Ok(specs)
     }

@@ -1,12 +1,13 @@
 //! Shards whose outputs reach their own sources.
-ghost use Rattle.std.specs.Prelude.{◌≡◌, ◌||◌, ◌++◌, IfOk, map, length, drop};
+ghost use Rattle.std.specs.Prelude.{◌≡◌, ◌||◌, ◌++◌, IfOk, map, length, drop, codes};
 ghost use Rattle.std.specs.List.{list_any};
 ghost use Rattle.std.specs.Str.{bytes_eq};
+ghost use Rattle.gz_label.specs.Labels.{values_of};
 ghost use Rattle.gz_spec.specs.Cycles.{feeds, bit, row, either, widened, widened_all, closed, fed_rows, flag, first_cycle, IsToldFirst, IsToldCycle};
 
 use crate::levels::is_ordered;
 use crate::{ShardSpec, SourceSpec};
-use gz_label::{Name, NoMemory};
+use gz_label::{Label, Name, NoMemory};
 use std::alloc::Global;
 use std::marker::Model;
 
@@ -65,18 +66,23 @@ fn is_source(sources: &[SourceSpec], name: &Name) -> bool
     false
 }
 
-/// Whether an output of the first shard is a source of the second.
-fn feeds(shard: &ShardSpec, other: &ShardSpec) -> bool
-    ensures { result ≡ feeds shard.now other.now }
+/// Whether one of the labels' outputs is among the sources.
+fn is_any_read(labels: &[Label], sources: &[SourceSpec]) -> bool
+    ensures { result ≡ list_any (λ o. list_any (λ u. bytes_eq u.journal o) sources.now) (values_of (codes "output") labels.now) }
 {
-    for label in shard.labels.as_slice() {
-        if label.name.as_slice() == b"output".as_slice()
-            && is_source(other.sources.as_slice(), &label.value)
-        {
+    for label in labels {
+        if label.name.as_slice() == b"output".as_slice() && is_source(sources, &label.value) {
             return true;
         }
     }
     false
+}
+
+/// Whether an output of the first shard is a source of the second.
+fn feeds(shard: &ShardSpec, other: &ShardSpec) -> bool
+    ensures { result ≡ feeds shard.now other.now }
+{
+    is_any_read(shard.labels.as_slice(), other.sources.as_slice())
 }
 
 fn fed_row(alloc: Global, shard: &ShardSpec, shards: &[ShardSpec]) -> Result<Row, NoMemory>

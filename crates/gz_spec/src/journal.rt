@@ -4,6 +4,7 @@ ghost use Rattle.serde_json.specs.View.{view};
 ghost use Rattle.serde_json.specs.Find.{get};
 ghost use Rattle.gz_spec.specs.Paths.{below};
 ghost use Rattle.gz_spec.specs.Outcomes.{Gives};
+ghost use Rattle.gz_spec.specs.Names.{is_journal_name};
 ghost use Rattle.gz_spec.specs.Valid.{is_journal};
 ghost use Rattle.gz_spec.specs.Journals.{fragment_in, fragment_at, codec_if, journal_with, journal_at, journal_of, next_journal};
 
@@ -17,6 +18,7 @@ use gz_label::{Blob, LabelSet, Name, NoMemory};
 use indexmap::IndexSet;
 use serde_json::Value;
 use std::alloc::Global;
+use std::marker::Model;
 
 /// How many brokers hold a journal.
 const REPLICATION: Range = Range { least: 1, most: 5 };
@@ -30,7 +32,7 @@ const FRAGMENT: Range = Range {
 /// The bytes of a fragment, where nothing else is said.
 const DEFAULT_FRAGMENT: u64 = 67_108_864;
 
-/// A journal.
+/// A journal. Whatever is of this type is valid.
 #[derive(Debug, Drop)]
 pub struct JournalSpec {
     /// Segments of letters, digits, `_`, `.` and `-` with a `/` between each two, of at most 255 bytes
@@ -41,6 +43,18 @@ pub struct JournalSpec {
     pub labels: LabelSet,
     /// The bytes of a fragment, from 1 to 1,073,741,824.
     pub fragment_length: u64,
+}
+
+impl Model for JournalSpec {
+    ghost use Rattle.std.specs.Prelude.{IsTrue};
+    ghost use Rattle.gz_spec.specs.Records.{JournalSpec as Seen};
+    ghost use Rattle.gz_spec.specs.Valid.{is_journal};
+
+    ghost Value = { Seen };
+
+    ghost view = { λ a. record { name = a.name; replication = a.replication; labels = a.labels; fragment_length = a.fragment_length } };
+
+    ghost invariant = { λ a. IsTrue (is_journal (record { name = a.name; replication = a.replication; labels = a.labels; fragment_length = a.fragment_length })) };
 }
 
 impl JournalSpec {
@@ -106,6 +120,7 @@ fn read_rest(
     name: Name,
     value: &Value,
 ) -> Result<JournalSpec, SpecError>
+    requires { IsTrue (is_journal_name name) }
     ensures gives { Gives (λ j. j) result (journal_with path.now name (view value.now)) }
     ensures named { IfOk result (λ j. j.name ≡ name) }
 {

@@ -233,7 +233,8 @@ impl Waiting {
             if k < self.order.len() {
                 let place = self.order[k];
                 if place < shards.len() {
-                    self.take(journals, shards[place].labels.as_slice(), k + 1)?;
+                    let shard = &shards[place];
+                    self.take(journals, shard.labels.as_slice(), k + 1)?;
                 }
             }
         }

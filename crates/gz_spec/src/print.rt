@@ -5,7 +5,6 @@ ghost use Rattle.serde_json.specs.View.{view, members_view};
 ghost use Rattle.serde_json.specs.Written.{compact_text};
 ghost use Rattle.gz_json.specs.Json.{json_of};
 ghost use Rattle.gz_spec.specs.Printed.{values_in_front, with_first, label_members, labels_data, fragment_data, journal_data, source_data, shard_data, member_data, four_lists, specs_data, specs_data_as, journal_text, shard_text, specs_text};
-ghost use Rattle.gz_spec.specs.Valid.{is_journal, is_shard, are_specs};
 ghost use Rattle.gz_spec.specs.Journals.{journal_of};
 ghost use Rattle.gz_spec.specs.Shards.{shard_of};
 ghost use Rattle.gz_spec.specs.Specs.{part_of, whole, specs_of};
@@ -251,8 +250,10 @@ fn specs_value_as(alloc: Global, event: &str, specs: &Specs) -> Result<Value, No
 #[tactic(auto, unfolding(crate::specs::Printed::journal_text), using(crate::proofs::Datas::journal_no_float))]
 pub fn print_journal(alloc: Global, journal: &JournalSpec) -> Result<Blob, NoMemory>
     ensures text { IfOk result (λ text. text ≡ journal_text journal.now) }
-    ensures reads_back { IfOk result (λ text. IsTrue (is_journal journal.now) → journal_of text ≡ Ok journal.now) }
+    ensures reads_back { IfOk result (λ text. journal_of text ≡ Ok journal.now) }
 {
+    // A look inside, by which the type's invariant is known.
+    let _ = &journal.name;
     let value = journal_value(alloc, journal)?;
     let text = gz_json::print(alloc, &value)?;
     Ok(text)
@@ -263,8 +264,10 @@ pub fn print_journal(alloc: Global, journal: &JournalSpec) -> Result<Blob, NoMem
 #[tactic(auto, unfolding(crate::specs::Printed::shard_text), using(crate::proofs::Datas::shard_no_float))]
 pub fn print_shard(alloc: Global, shard: &ShardSpec) -> Result<Blob, NoMemory>
     ensures text { IfOk result (λ text. text ≡ shard_text shard.now) }
-    ensures reads_back { IfOk result (λ text. IsTrue (is_shard shard.now) → shard_of text ≡ Ok shard.now) }
+    ensures reads_back { IfOk result (λ text. shard_of text ≡ Ok shard.now) }
 {
+    // A look inside, by which the type's invariant is known.
+    let _ = &shard.id;
     let value = shard_value(alloc, shard)?;
     let text = gz_json::print(alloc, &value)?;
     Ok(text)
@@ -275,9 +278,11 @@ pub fn print_shard(alloc: Global, shard: &ShardSpec) -> Result<Blob, NoMemory>
 #[tactic(auto, unfolding(crate::specs::Printed::specs_text), using(crate::proofs::Datas::specs_no_float))]
 pub fn print_specs(alloc: Global, specs: &Specs) -> Result<Blob, NoMemory>
     ensures text { IfOk result (λ text. text ≡ specs_text specs.now) }
-    ensures reads_back { IfOk result (λ text. IsTrue (are_specs specs.now) → part_of text ≡ Ok specs.now) }
-    ensures judged { IfOk result (λ text. IsTrue (are_specs specs.now) → specs_of text ≡ whole specs.now) }
+    ensures reads_back { IfOk result (λ text. part_of text ≡ Ok specs.now) }
+    ensures judged { IfOk result (λ text. specs_of text ≡ whole specs.now) }
 {
+    // A look inside, by which the type's invariant is known.
+    let _ = &specs.journals;
     let value = specs_value(alloc, specs)?;
     let text = gz_json::print(alloc, &value)?;
     Ok(text)
@@ -289,8 +294,10 @@ pub fn print_specs(alloc: Global, specs: &Specs) -> Result<Blob, NoMemory>
 pub fn print_specs_as(alloc: Global, event: &str, specs: &Specs) -> Result<Blob, NoMemory>
     ensures text { IfOk result (λ text. text ≡ compact_text (specs_data_as event.now specs.now)) }
     ensures value { IfOk result (λ text. json_of text ≡ Some (specs_data_as event.now specs.now)) }
-    ensures judged { IfOk result (λ text. IsTrue (are_specs specs.now) → specs_of text ≡ whole specs.now) }
+    ensures judged { IfOk result (λ text. specs_of text ≡ whole specs.now) }
 {
+    // A look inside, by which the type's invariant is known.
+    let _ = &specs.journals;
     let value = specs_value_as(alloc, event, specs)?;
     let text = gz_json::print(alloc, &value)?;
     Ok(text)

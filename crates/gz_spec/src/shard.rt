@@ -3,6 +3,7 @@ ghost use Rattle.std.specs.Prelude.{◌≡◌, ◌++◌, ◌∷◌, [], IfOk, Is
 ghost use Rattle.serde_json.specs.View.{view};
 ghost use Rattle.gz_label.specs.Labels.{values_of};
 ghost use Rattle.gz_spec.specs.Outcomes.{Gives};
+ghost use Rattle.gz_spec.specs.Names.{is_id};
 ghost use Rattle.gz_spec.specs.Valid.{is_shard};
 ghost use Rattle.gz_spec.specs.Shards.{app_of, shard_with, shard_at, shard_of, next_shard};
 
@@ -18,6 +19,7 @@ use gz_label::{Blob, LabelSet, Name, NoMemory};
 use indexmap::IndexSet;
 use serde_json::Value;
 use std::alloc::Global;
+use std::marker::Model;
 
 /// How many backups the hints have, and how many standbys a shard has.
 const UP_TO_4: Range = Range { least: 0, most: 4 };
@@ -34,7 +36,7 @@ const MEMBERS: [&str; 8] = [
     "labels",
 ];
 
-/// A shard.
+/// A shard. Whatever is of this type is valid.
 #[derive(Debug, Drop)]
 pub struct ShardSpec {
     /// 1 to 32 letters, digits, `_` or `-`.
@@ -54,6 +56,18 @@ pub struct ShardSpec {
     /// One label `app` names what the shard does. Labels `output` name the journals that it writes to:
     /// 1 to 8, and none where the application is `latest`.
     pub labels: LabelSet,
+}
+
+impl Model for ShardSpec {
+    ghost use Rattle.std.specs.Prelude.{IsTrue};
+    ghost use Rattle.gz_spec.specs.Records.{ShardSpec as Seen};
+    ghost use Rattle.gz_spec.specs.Valid.{is_shard};
+
+    ghost Value = { Seen };
+
+    ghost view = { λ a. record { id = a.id; sources = a.sources; recovery_log_prefix = a.recovery_log_prefix; hint_prefix = a.hint_prefix; hint_backups = a.hint_backups; hot_standbys = a.hot_standbys; disable = a.disable; labels = a.labels } };
+
+    ghost invariant = { λ a. IsTrue (is_shard (record { id = a.id; sources = a.sources; recovery_log_prefix = a.recovery_log_prefix; hint_prefix = a.hint_prefix; hint_backups = a.hint_backups; hot_standbys = a.hot_standbys; disable = a.disable; labels = a.labels })) };
 }
 
 impl ShardSpec {
@@ -84,6 +98,7 @@ impl ShardSpec {
 /// The shard of this id, by what follows the id.
 #[tactic(auto, unfolding(crate::specs::Shards::shard_with))]
 fn read_rest(alloc: Global, path: &Blob, id: Name, value: &Value) -> Result<ShardSpec, SpecError>
+    requires { IsTrue (is_id id) }
     ensures gives { Gives (λ s. s) result (shard_with path.now id (view value.now)) }
     ensures named { IfOk result (λ s. s.id ≡ id) }
 {

@@ -25,11 +25,24 @@ const MIN_OFFSET: Range = Range {
     most: 4_611_686_018_427_387_904,
 };
 
-/// A journal that a shard reads, and the offset in bytes from which it does, at most 2^62.
+/// A journal that a shard reads, and the offset in bytes from which it does, at most 2^62. Whatever is of this type
+/// is valid.
 #[derive(Debug, Drop)]
 pub struct SourceSpec {
     pub journal: Name,
     pub min_offset: u64,
+}
+
+impl Model for SourceSpec {
+    ghost use Rattle.std.specs.Prelude.{IsTrue};
+    ghost use Rattle.gz_spec.specs.Records.{SourceSpec as Seen};
+    ghost use Rattle.gz_spec.specs.Valid.{is_source};
+
+    ghost Value = { Seen };
+
+    ghost view = { λ a. record { journal = a.journal; min_offset = a.min_offset } };
+
+    ghost invariant = { λ a. IsTrue (is_source (record { journal = a.journal; min_offset = a.min_offset })) };
 }
 
 impl SourceSpec {
@@ -52,7 +65,7 @@ pub struct Sources {
 
 impl Model for Sources {
     ghost use Rattle.std.specs.Prelude.{List};
-    ghost use Rattle.gz_spec.specs.declared.source.SourceSpec.{SourceSpec};
+    ghost use Rattle.gz_spec.specs.Records.{SourceSpec};
 
     ghost Value = { List SourceSpec };
 

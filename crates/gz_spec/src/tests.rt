@@ -1,9 +1,10 @@
 //! Specifications that are refused, each for one thing, the limits, and what is read where nothing is said.
 use crate::levels::is_ordered;
 use crate::{
-    SpecError, print_journal, print_shard, print_specs, read_journal, read_member, read_part,
-    read_shard, read_specs,
+    JournalSpec, MemberSpec, ShardSpec, SpecError, Specs, print_journal, print_shard, print_specs,
+    read_journal, read_member, read_part, read_shard, read_specs,
 };
+use gz_label::Blob;
 use std::alloc::{AllocError, Global};
 use std::test::Fail;
 
@@ -264,27 +265,50 @@ fn limits_are_accepted_and_the_next_number_is_not(rt: HostRuntime) -> Result<(),
     Ok(())
 }
 
+/// What the text is, with `'` for `"`. These have no clauses, so that no proof computes what a text says.
+fn journal_of(alloc: Global, text: &str) -> Result<JournalSpec, SpecError> {
+    let text = text.replace(alloc, "'", "\"")?;
+    read_journal(alloc, text.as_bytes())
+}
+
+fn shard_of(alloc: Global, text: &str) -> Result<ShardSpec, SpecError> {
+    let text = text.replace(alloc, "'", "\"")?;
+    read_shard(alloc, text.as_bytes())
+}
+
+fn member_of(alloc: Global, text: &str) -> Result<MemberSpec, SpecError> {
+    let text = text.replace(alloc, "'", "\"")?;
+    read_member(alloc, text.as_bytes())
+}
+
+fn specs_of(alloc: Global, text: &str) -> Result<Specs, SpecError> {
+    let text = text.replace(alloc, "'", "\"")?;
+    read_specs(alloc, text.as_bytes())
+}
+
+fn part_of(alloc: Global, text: &str) -> Result<Specs, SpecError> {
+    let text = text.replace(alloc, "'", "\"")?;
+    read_part(alloc, text.as_bytes())
+}
+
 #[test]
 fn what_is_absent_has_its_default(rt: HostRuntime) -> Result<(), Fail> {
     let alloc = rt.alloc();
-    let journal = read_journal(
-        alloc,
-        b"{\"name\":\"a/b\",\"labels\":{\"x\":[\"2\",\"1\",\"2\"]}}",
-    )?;
+    let journal = journal_of(alloc, "{'name':'a/b','labels':{'x':['2','1','2']}}")?;
     assert_eq!(rt; journal.name.as_slice(), b"a/b".as_slice());
     assert_eq!(rt; journal.replication, 1);
     assert_eq!(rt; journal.fragment_length, 67_108_864);
     assert_eq!(rt; journal.labels.len(), 2);
-    let shard = read_shard(
+    let shard = shard_of(
         alloc,
-        b"{\"id\":\"s\",\"sources\":[{\"journal\":\"a\"}],\"recovery_log_prefix\":\"r\",\"labels\":{\"app\":[\"latest\"]}}",
+        "{'id':'s','sources':[{'journal':'a'}],'recovery_log_prefix':'r','labels':{'app':['latest']}}",
     )?;
     assert_eq!(rt; shard.hint_prefix.as_slice(), b"hint".as_slice());
     assert_eq!(rt; shard.hint_backups, 0);
     assert_eq!(rt; shard.hot_standbys, 0);
     assert!(rt; !shard.disable);
     assert_eq!(rt; shard.sources.as_slice().len(), 1);
-    let member = read_member(alloc, b"{\"id\":\"keys\",\"zone\":\"z\",\"limit\":3}")?;
+    let member = member_of(alloc, "{'id':'keys','zone':'z','limit':3}")?;
     assert_eq!(rt; member.id.as_slice(), b"keys".as_slice());
     assert_eq!(rt; member.limit, 3);
     Ok(())
@@ -360,19 +384,18 @@ fn joins(
 #[test]
 fn a_replaced_journal_keeps_its_place_and_what_it_holds(rt: HostRuntime) -> Result<(), Fail> {
     let alloc = rt.alloc();
-    let first = SPECS.replace(alloc, "'", "\"")?;
     let more =
-        "{'journals':[{'name':'new'},{'name':'rec/s1','replication':3,'labels':{'content-type':['application/x-gazette-recoverylog'],'a':['b']}}],'brokers':[{'id':'b9','zone':'z','limit':1}]}".replace(
-            alloc, "'", "\"",
-        )?;
-    let specs = read_specs(alloc, first.as_bytes())?;
-    let both = specs.copy()?.join(&read_part(alloc, more.as_bytes())?)?;
+        "{'journals':[{'name':'new'},{'name':'rec/s1','replication':3,'labels':{'content-type':['application/x-gazette-recoverylog'],'a':['b']}}],'brokers':[{'id':'b9','zone':'z','limit':1}]}";
+    let both = specs_of(alloc, SPECS)?
+        .copy()?
+        .join(&part_of(alloc, more)?)?;
     let journals = both.journals.as_slice();
     assert_eq!(rt; journals.len(), 4);
-    assert_eq!(rt; journals[0].name.as_slice(), b"out".as_slice());
-    assert_eq!(rt; journals[1].name.as_slice(), b"rec/s1".as_slice());
-    assert_eq!(rt; journals[1].replication, 3);
-    assert_eq!(rt; journals[3].name.as_slice(), b"new".as_slice());
+    let (first, replaced, last) = (&journals[0], &journals[1], &journals[3]);
+    assert_eq!(rt; first.name.as_slice(), b"out".as_slice());
+    assert_eq!(rt; replaced.name.as_slice(), b"rec/s1".as_slice());
+    assert_eq!(rt; replaced.replication, 3);
+    assert_eq!(rt; last.name.as_slice(), b"new".as_slice());
     assert_eq!(rt; both.shards.as_slice().len(), 1);
     assert_eq!(rt; both.brokers.as_slice().len(), 1);
     assert_eq!(rt; both.consumers.as_slice().len(), 1);
@@ -425,29 +448,45 @@ fn a_list_that_grows_too_long_is_refused(rt: HostRuntime) -> Result<(), Fail> {
     Ok(())
 }
 
+/// The journal that the text is, as it is printed.
+fn journal_again(alloc: Global, text: &str) -> Result<Blob, SpecError> {
+    let journal = journal_of(alloc, text)?;
+    Ok(print_journal(alloc, &journal)?)
+}
+
+/// The shard that the text is, as it is printed.
+fn shard_again(alloc: Global, text: &str) -> Result<Blob, SpecError> {
+    let shard = shard_of(alloc, text)?;
+    Ok(print_shard(alloc, &shard)?)
+}
+
+/// The specifications that the text is, as they are printed.
+fn specs_again(alloc: Global, text: &[u8]) -> Result<Blob, SpecError> {
+    let specs = read_specs(alloc, text)?;
+    Ok(print_specs(alloc, &specs)?)
+}
+
 #[test]
 fn what_is_printed_is_read_back(rt: HostRuntime) -> Result<(), Fail> {
     let alloc = rt.alloc();
     let text = SPECS.replace(alloc, "'", "\"")?;
-    let specs = read_specs(alloc, text.as_bytes())?;
-    let printed = print_specs(alloc, &specs)?;
-    let again = read_specs(alloc, printed.as_slice())?;
-    let same = print_specs(alloc, &again)?;
+    let printed = specs_again(alloc, text.as_bytes())?;
+    let same = specs_again(alloc, printed.as_slice())?;
     assert_eq!(rt; printed.as_slice(), same.as_slice());
-    let journal = read_journal(
+    let journal = journal_again(
         alloc,
-        b"{\"name\":\"a\",\"labels\":{\"y\":[\"2\",\"1\"],\"x\":[\"a\\\"\"]}}",
+        "{'name':'a','labels':{'y':['2','1'],'x':['a\\u0022']}}",
     )?;
     assert_eq!(rt;
-        print_journal(alloc, &journal)?.as_slice(),
+        journal.as_slice(),
         b"{\"fragment\":{\"compression_codec\":\"NONE\",\"length\":67108864},\"labels\":{\"x\":[\"a\\\"\"],\"y\":[\"1\",\"2\"]},\"name\":\"a\",\"replication\":1}".as_slice()
     );
-    let shard = read_shard(
+    let shard = shard_again(
         alloc,
-        b"{\"id\":\"s\",\"sources\":[{\"journal\":\"a\"}],\"recovery_log_prefix\":\"r\",\"labels\":{\"app\":[\"latest\"]}}",
+        "{'id':'s','sources':[{'journal':'a'}],'recovery_log_prefix':'r','labels':{'app':['latest']}}",
     )?;
     assert_eq!(rt;
-        print_shard(alloc, &shard)?.as_slice(),
+        shard.as_slice(),
         b"{\"disable\":false,\"hint_backups\":0,\"hint_prefix\":\"hint\",\"hot_standbys\":0,\"id\":\"s\",\"labels\":{\"app\":[\"latest\"]},\"recovery_log_prefix\":\"r\",\"sources\":[{\"journal\":\"a\",\"min_offset\":0}]}".as_slice()
     );
     Ok(())

@@ -1,12 +1,10 @@
 -- Definitions by specifications are small.
-use Rattle.std.proofs.Common.{◌≡◌, ◌&&◌, ℕ, ◌+◌, ◌<◌, ◌≤◌, ◌^◌, List, [], ◌∷◌, ◌++◌, suc, length, map, nat_le, refl, ap, ◌∙◌, sym, drop, get_or, drop-cons, append_assoc, Bool, true, false, arith}
-use Rattle.std.specs.Prelude.{IsTrue}
+use Rattle.std.proofs.Common.{◌≡◌, ℕ, ◌+◌, ◌<◌, ◌≤◌, ◌^◌, List, [], ◌∷◌, ◌++◌, suc, length, map, nat_le, refl, ap, drop, get_or, drop-cons, append_assoc, true, arith}
 use Rattle.std.specs.List.{list_all}
 use Rattle.std.proofs.lemmas.Grind.{common_steps}
 use Rattle.gz_spec.specs.Names.{is_journal_name}
 use Rattle.gz_spec.specs.Valid.{is_between, is_source, is_shard}
-use Rattle.gz_spec.specs.declared.source.SourceSpec.{SourceSpec}
-use Rattle.gz_spec.specs.declared.shard.ShardSpec.{ShardSpec}
+use Rattle.gz_spec.specs.Records.{SourceSpec, ShardSpec}
 use Rattle.gz_plain.specs.declared.cluster.Definition.{Definition}
 use Rattle.gz_plain.specs.declared.cluster.Source.{Source}
 use Rattle.gz_plain.specs.Definitions as plain

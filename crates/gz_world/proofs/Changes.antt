@@ -1,27 +1,26 @@
 -- Journals and shards may change to those of specifications.
-use Rattle.std.proofs.Common.{◌≡◌, ◌&&◌, ℕ, zero, suc, ◌+◌, ◌<◌, ◌≤◌, ◌^◌, List, [], ◌∷◌, ◌++◌, length, map, take, drop, length-drop, ◌-◌, refl, sym, ap, ◌∙◌, subst, Bool, true, false, Result, Ok, Err, arith}
+use Rattle.std.proofs.Common.{◌≡◌, ℕ, ◌+◌, ◌<◌, ◌≤◌, ◌^◌, List, [], ◌∷◌, ◌++◌, length, take, drop, length-drop, ◌-◌, refl, sym, ap, ◌∙◌, subst, true, Result, Ok, Err, arith}
 use Rattle.std.specs.Prelude.{is_ok}
 use Rattle.std.proofs.lemmas.List.{take_all}
 use Rattle.gz_spec.specs.Links.{are_linked}
 use Rattle.gz_spec.specs.Specs.{whole}
 use Rattle.gz_spec.specs.Valid.{are_specs}
-use Rattle.gz_spec.specs.declared.cluster.Specs.{Specs}
+use Rattle.gz_spec.specs.Records.{Specs, JournalSpec}
 use Rattle.gz_spec.specs.declared.error.SpecError.{SpecError}
-use Rattle.gz_spec.specs.declared.journal.JournalSpec.{JournalSpec}
 use Rattle.gz_spec.proofs.Whole.{whole_good}
 use Rattle.gz_scenario.specs.Lawful.{is_start}
 use Rattle.gz_plain.specs.Cluster.{AreLinked, definitions_of as definitions_seen}
 use Rattle.gz_plain.specs.Definitions.{Definition}
 use Rattle.gz_plain.specs.Journals.{Journal}
 use Rattle.gz_plain.specs.Places.{names_of}
-use Rattle.gz_plain.specs.Runs.{Distinct, with_journals, AreDefined, continues, changes, MayHappen}
+use Rattle.gz_plain.specs.Runs.{Distinct, with_journals, continues, changes, MayHappen}
 use Rattle.gz_plain.specs.Shards as shards
 use Rattle.gz_plain.specs.declared.cluster.Definition as declared
 use Rattle.gz_plain.proofs.Places.{names_empty}
 use Rattle.gz_world.specs.Starts.{names_of_journals, definitions_of}
 use Rattle.gz_world.proofs.Begun.{seen_count}
 use Rattle.gz_world.proofs.Defined.{are_defined, definitions_linked}
-use Rattle.gz_world.proofs.Good.{and_parts, AreGood, are_good, distinct_names, few_definitions}
+use Rattle.gz_world.proofs.Good.{and_parts, are_good, distinct_names, few_definitions}
 
 -- ---- names
 

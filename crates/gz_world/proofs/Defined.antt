@@ -1,16 +1,12 @@
 -- Shards of specifications read and write journals that these name.
-use Rattle.std.proofs.Common.{◌≡◌, ◌&&◌, ◌||◌, ℕ, List, [], ◌∷◌, map, refl, sym, ap, ◌∙◌, subst, Bool, true, false}
-use Rattle.std.specs.Prelude.{⊤}
+use Rattle.std.proofs.Common.{◌≡◌, ◌||◌, ℕ, List, [], ◌∷◌, map, refl, sym, ap, ◌∙◌, subst, Bool, true}
 use Rattle.std.specs.List.{list_all}
 use Rattle.std.specs.Str.{bytes_eq}
 use Rattle.gz_spec.specs.Links.{held, is_lines, is_log, is_readable, log_name, outputs_of, is_linked, are_linked}
 use Rattle.gz_spec.specs.Specs.{name_of_journal}
 use Rattle.gz_spec.specs.Valid.{is_shard}
-use Rattle.gz_spec.specs.declared.cluster.Specs.{Specs}
-use Rattle.gz_spec.specs.declared.journal.JournalSpec.{JournalSpec}
-use Rattle.gz_spec.specs.declared.shard.ShardSpec.{ShardSpec}
+use Rattle.gz_spec.specs.Records.{Specs, JournalSpec, ShardSpec}
 use Rattle.gz_plain.specs.Cluster.{AreLinked}
-use Rattle.gz_plain.specs.Definitions.{Definition}
 use Rattle.gz_plain.specs.Journals.{Journal, is_journal}
 use Rattle.gz_plain.specs.Places.{names_of}
 use Rattle.gz_plain.specs.Running.{journals_of}

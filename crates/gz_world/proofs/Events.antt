@@ -1,6 +1,5 @@
 -- What the events of a run do: its journals and shards stay tied to its specifications.
-use Rattle.std.proofs.Common.{◌≡◌, ℕ, zero, suc, ◌+◌, ◌<◌, ◌≤◌, ◌^◌, ◌&&◌, List, [], ◌∷◌, ◌++◌, length, map, filter, nat_le, refl, ap, sym, subst, cond, All, Bool, true, false, Option, Some, None, Result, Ok, Err, arith}
-use Rattle.std.specs.Prelude.{⊤}
+use Rattle.std.proofs.Common.{◌≡◌, ℕ, zero, suc, ◌+◌, ◌<◌, ◌≤◌, ◌^◌, ◌&&◌, List, [], ◌∷◌, length, nat_le, refl, subst, cond, All, Bool, true, false, Result, Ok, Err, arith}
 use Rattle.std.specs.List.{list_all}
 use Rattle.std.proofs.lemmas.Bool.{and_parts, and_from}
 use Rattle.std.proofs.lemmas.Grind.{common_steps}
@@ -11,7 +10,7 @@ use Rattle.gz_frame.proofs.Lines.{lawful_line_reads_back}
 use Rattle.gz_spec.specs.Names.{is_id, is_journal_name}
 use Rattle.gz_spec.specs.Joins.{join_of}
 use Rattle.gz_spec.specs.Valid.{are_specs}
-use Rattle.gz_spec.specs.declared.cluster.Specs.{Specs}
+use Rattle.gz_spec.specs.Records.{Specs}
 use Rattle.gz_spec.specs.declared.error.SpecError.{SpecError}
 use Rattle.gz_registry.specs.Registered.{Registered, put_answer}
 use Rattle.gz_registry.specs.declared.error.RegistryError.{RegistryError}

@@ -1,11 +1,10 @@
 -- What is known of specifications that were read.
-use Rattle.std.proofs.Common.{◌≡◌, ◌&&◌, ℕ, ◌+◌, ◌<◌, ◌≤◌, ◌^◌, List, [], ◌∷◌, length, map, nat_le, refl, Bool, true, false, arith}
+use Rattle.std.proofs.Common.{◌≡◌, ◌&&◌, ℕ, ◌≤◌, List, [], length, map, nat_le, refl, Bool, true, false, arith}
 use Rattle.std.specs.List.{list_all}
 use Rattle.std.proofs.lemmas.Grind.{common_steps}
 use Rattle.gz_spec.specs.Specs.{name_of_journal, id_of_shard, id_of_member}
 use Rattle.gz_spec.specs.Valid.{are_fresh, is_journal, is_shard, are_journals, are_shards, are_members, are_specs}
-use Rattle.gz_spec.specs.declared.cluster.Specs.{Specs}
-use Rattle.gz_spec.specs.declared.shard.ShardSpec.{ShardSpec}
+use Rattle.gz_spec.specs.Records.{Specs, ShardSpec}
 use Rattle.gz_plain.specs.Runs.{Distinct}
 use Rattle.gz_world.specs.Starts.{definitions_of}
 use Rattle.gz_world.proofs.Used.{distinct_fresh}

@@ -9,7 +9,7 @@ use Rattle.std.proofs.lemmas.Map.Text.{is_eq-slice_cmp}
 use Rattle.std.proofs.lemmas.Slice.Eq.{bytes_eq-Decides}
 use Rattle.gz_spec.specs.Joins.{joined}
 use Rattle.gz_spec.specs.Specs.{id_of_shard}
-use Rattle.gz_spec.specs.declared.shard.ShardSpec.{ShardSpec}
+use Rattle.gz_spec.specs.Records.{ShardSpec}
 use Rattle.gz_plain.specs.Definitions.{Definition, definition_of}
 use Rattle.gz_plain.specs.Runs.{continues}
 use Rattle.gz_plain.specs.Shards.{Shard}

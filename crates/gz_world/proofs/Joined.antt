@@ -5,7 +5,7 @@ use Rattle.std.specs.Str.{bytes_eq}
 use Rattle.std.proofs.lemmas.Slice.Eq.{bytes_eq-Decides}
 use Rattle.gz_spec.specs.Joins.{named_in, replaced, is_new, joined, contents_kept, both_of, join_of}
 use Rattle.gz_spec.specs.Lists.{no_more_than}
-use Rattle.gz_spec.specs.declared.cluster.Specs.{Specs}
+use Rattle.gz_spec.specs.Records.{Specs}
 use Rattle.gz_spec.proofs.Readable.{step}
 use Rattle.gz_spec.proofs.Whole.{whole_good}
 

@@ -1,5 +1,5 @@
 -- The events that lines say.
-use Rattle.std.proofs.Common.{◌≡◌, ℕ, ◌+◌, ◌<◌, ◌≤◌, ◌&&◌, ◌==◌, List, length, refl, Bool, true, false, cond, nat_le, Option, Some, None, Result, Ok, Err, arith}
+use Rattle.std.proofs.Common.{◌≡◌, ℕ, ◌+◌, ◌<◌, ◌≤◌, ◌&&◌, List, length, refl, Bool, true, false, cond, nat_le, Option, Some, None, Result, Ok, Err, arith}
 use Rattle.std.specs.Prelude.{codes, option_and_then}
 use Rattle.std.specs.Str.{bytes_eq}
 use Rattle.std.proofs.lemmas.Grind.{common_steps}
@@ -7,9 +7,9 @@ use Rattle.serde_json.specs.Data.{Data}
 use Rattle.serde_json.specs.Find.{get, as_str}
 use Rattle.gz_json.specs.Json.{json_of}
 use Rattle.gz_spec.specs.Specs.{specs_of}
-use Rattle.gz_spec.specs.declared.cluster.Specs.{Specs as SpecLists}
+use Rattle.gz_spec.specs.Records.{Specs as SpecLists}
 use Rattle.gz_spec.specs.declared.error.SpecError.{SpecError}
-use Rattle.gz_scenario.specs.Events.{event_of, event_in, event_if, event_named, max_lines, max_line}
+use Rattle.gz_scenario.specs.Events.{event_of, event_in, event_if, max_lines, max_line}
 use Rattle.gz_scenario.specs.Outcomes as scenario
 use Rattle.gz_scenario.specs.Refusals.{on_line}
 use Rattle.gz_scenario.specs.declared.error.ScenarioError.{ScenarioError}

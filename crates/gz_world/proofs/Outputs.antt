@@ -1,22 +1,20 @@
 -- The sources and outputs of a shard that may be read: each is a journal, and no output is named twice.
-use Rattle.std.proofs.Common.{◌≡◌, ◌&&◌, ℕ, List, [], ◌∷◌, length, map, filter, nat_le, refl, sym, ap, subst, ◌∙◌, cond, is_lt, Bool, true, false, Option, Some, None, Ordering, Less, Equal, Greater}
+use Rattle.std.proofs.Common.{◌≡◌, ◌&&◌, ℕ, List, [], ◌∷◌, map, refl, sym, subst, ◌∙◌, cond, is_lt, Bool, true, false, Option, Some, None, Ordering, Equal}
 use Rattle.std.specs.Prelude.{⊤, codes}
 use Rattle.std.specs.List.{list_all}
 use Rattle.std.specs.Str.{bytes_eq}
 use Rattle.std.proofs.lemmas.Cmp.{tied_itself}
 use Rattle.std.proofs.lemmas.Slice.Eq.{bytes_eq-Decides}
 use Rattle.gz_label.specs.declared.label.Label.{Label}
-use Rattle.gz_label.specs.Labels.{label_cmp, comes_before, are_rising, is_label_set, labels_named, values_of}
+use Rattle.gz_label.specs.Labels.{label_cmp, comes_before, are_rising, is_label_set, labels_named}
 use Rattle.gz_label.proofs.Sets.{label_total, less, rising_of_set, is_label_set-filter}
 use Rattle.gz_spec.specs.Links.{held, framing_in, is_lines, is_readable, outputs_of}
 use Rattle.gz_spec.specs.Names.{is_id, is_journal_name, is_hint_prefix}
 use Rattle.gz_spec.specs.Specs.{name_of_journal}
 use Rattle.gz_spec.specs.Valid.{is_between, are_sources, are_shard_labels, is_shard}
 use Rattle.gz_spec.specs.declared.framing.Framing.{Framing}
-use Rattle.gz_spec.specs.declared.journal.JournalSpec.{JournalSpec}
-use Rattle.gz_spec.specs.declared.source.SourceSpec.{SourceSpec}
-use Rattle.gz_spec.specs.declared.shard.ShardSpec.{ShardSpec}
-use Rattle.gz_plain.specs.Journals.{Journal, is_journal}
+use Rattle.gz_spec.specs.Records.{JournalSpec, SourceSpec, ShardSpec}
+use Rattle.gz_plain.specs.Journals.{is_journal}
 use Rattle.gz_plain.specs.Order.{Apart}
 use Rattle.gz_plain.specs.Running.{journals_of}
 use Rattle.gz_plain.specs.Runs.{Distinct, ArePresent, all_empty}

@@ -1,5 +1,5 @@
 -- What every run keeps of its shards.
-use Rattle.std.proofs.Common.{◌≡◌, ℕ, List, [], ◌∷◌, length, sym, subst, Some, None, Result, Ok, Err}
+use Rattle.std.proofs.Common.{◌≡◌, ℕ, List, [], ◌∷◌, length, sym, subst, Some, Result, Ok, Err}
 use Rattle.gz_model.specs.Steps.{◌>>=◌}
 use Rattle.gz_scenario.specs.Events.{event_of}
 use Rattle.gz_scenario.specs.declared.error.ScenarioError.{ScenarioError}

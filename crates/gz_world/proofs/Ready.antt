@@ -1,22 +1,19 @@
 -- A world stays as its specifications say, whatever event comes.
-use Rattle.std.proofs.Common.{◌≡◌, ◌&&◌, ◌==◌, ℕ, zero, suc, ◌+◌, ◌≤◌, List, [], ◌∷◌, ◌++◌, length, map, filter, drop, refl, sym, ap, ◌∙◌, subst, Bool, true, false, Result, Ok, Err, arith}
-use Rattle.gz_spec.specs.Joins.{replaced, is_new, joined, both_of, join_of}
+use Rattle.std.proofs.Common.{◌≡◌, ◌&&◌, ◌==◌, ℕ, suc, ◌≤◌, List, [], ◌∷◌, ◌++◌, length, map, filter, drop, refl, sym, ap, ◌∙◌, subst, true, Result, Ok, Err, arith}
+use Rattle.gz_spec.specs.Joins.{replaced, is_new, joined, join_of}
 use Rattle.gz_spec.specs.Links.{are_linked}
-use Rattle.gz_spec.specs.Specs.{name_of_journal, id_of_shard}
+use Rattle.gz_spec.specs.Specs.{name_of_journal}
 use Rattle.gz_spec.specs.Valid.{are_specs}
-use Rattle.gz_spec.specs.declared.cluster.Specs.{Specs}
+use Rattle.gz_spec.specs.Records.{Specs}
 use Rattle.gz_spec.specs.declared.error.SpecError.{SpecError}
-use Rattle.gz_spec.specs.declared.journal.JournalSpec.{JournalSpec}
 use Rattle.gz_spec.proofs.Joining.{join_is_valid, join_is_linked}
 use Rattle.gz_scenario.specs.Lawful.{is_start, is_apply, is_event}
-use Rattle.gz_scenario.specs.declared.event.Join.{Join}
 use Rattle.gz_scenario.specs.declared.event.Publish.{Publish as Published}
 use Rattle.gz_scenario.specs.declared.event.Event.{Event}
 use Rattle.gz_scenario.specs.declared.event.Event.TheVariants.{Specs as Begins, Publish, Settle, Apply, Join as Joins, Expire}
 use Rattle.gz_registry.specs.Registered.{Registered, put_answer}
 use Rattle.gz_registry.specs.declared.error.RegistryError.{RegistryError}
 use Rattle.gz_plain.specs.Definitions.{Definition, definition_of}
-use Rattle.gz_plain.specs.Journals.{Journal, appended}
 use Rattle.gz_plain.specs.Places.{names_of}
 use Rattle.gz_plain.specs.Runs.{continues, nothing, changed}
 use Rattle.gz_plain.specs.Shards as shards
@@ -26,7 +23,7 @@ use Rattle.gz_world.specs.declared.reply.Answer.{Answer}
 use Rattle.gz_world.specs.declared.reply.Answer.TheVariants.{Landed, TooLarge, NotFramed}
 use Rattle.gz_world.specs.declared.reply.Reason.{Reason}
 use Rattle.gz_world.specs.Starts.{IsSpecified, names_of_journals, new_journals, definitions_of, cluster_start, cluster_with}
-use Rattle.gz_world.specs.Worlds.{World, world_start, content_of, landed, published, judged_publish, registered, judged_joined, judged_apply, with_specs, judged_join, judged_expire, with_registry, after}
+use Rattle.gz_world.specs.Worlds.{World, content_of, landed, published, judged_publish, registered, judged_joined, with_specs, judged_join, judged_expire, with_registry, after}
 use Rattle.gz_world.proofs.Changes.{start_whole}
 use Rattle.gz_world.proofs.Good.{and_parts, are_good, few_definitions}
 use Rattle.gz_world.proofs.Ids.{continues_joined}

@@ -4,7 +4,7 @@ use Rattle.gz_spec.specs.Cycles.{AreRanked}
 use Rattle.gz_spec.specs.Joins.{join_of}
 use Rattle.gz_spec.specs.Specs.{specs_of}
 use Rattle.gz_spec.specs.Valid.{are_specs}
-use Rattle.gz_spec.specs.declared.cluster.Specs.{Specs}
+use Rattle.gz_spec.specs.Records.{Specs}
 use Rattle.gz_spec.proofs.Joining.{join_is_linked, join_is_ranked}
 use Rattle.gz_spec.proofs.Whole.{read_is_valid, read_is_linked, read_is_ranked}
 use Rattle.gz_plain.specs.Definitions.{Definition}

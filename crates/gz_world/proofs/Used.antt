@@ -5,7 +5,7 @@ use Rattle.std.proofs.lemmas.Slice.Eq.{bytes_eq-Decides}
 use Rattle.gz_spec.specs.Lists.{is_used}
 use Rattle.gz_spec.specs.Specs.{name_of_journal}
 use Rattle.gz_spec.specs.Valid.{are_fresh}
-use Rattle.gz_spec.specs.declared.journal.JournalSpec.{JournalSpec}
+use Rattle.gz_spec.specs.Records.{JournalSpec}
 use Rattle.gz_plain.specs.Order.{Apart}
 use Rattle.gz_plain.specs.Runs.{Distinct}
 use Rattle.gz_plain.proofs.Starts.{unequal}

@@ -1,5 +1,5 @@
 -- How shards are wired: each journal's writers come before its readers.
-use Rattle.std.proofs.Common.{◌≡◌, ◌⊎◌, inl, inr, ◌&&◌, ◌||◌, ℕ, suc, ◌+◌, ◌<◌, List, [], ◌∷◌, ◌++◌, length, map, refl, sym, ap, ◌∙◌, subst, cond, not, Bool, true, false, Ordering, Less, Equal, Greater, arith}
+use Rattle.std.proofs.Common.{◌≡◌, ◌⊎◌, inl, inr, ◌||◌, ℕ, suc, ◌+◌, ◌<◌, List, [], ◌∷◌, ◌++◌, length, map, refl, sym, ap, ◌∙◌, subst, Bool, true, false, Ordering, Less, Equal, Greater, arith}
 use Rattle.std.specs.Prelude.{⊤}
 use Rattle.std.specs.List.{list_any, IsAmong}
 use Rattle.std.specs.Str.{bytes_eq}
@@ -13,8 +13,7 @@ use Rattle.gz_spec.specs.Links.{outputs_of}
 use Rattle.gz_spec.specs.Lists.{is_used}
 use Rattle.gz_spec.specs.Specs.{id_of_shard}
 use Rattle.gz_spec.specs.Valid.{are_fresh}
-use Rattle.gz_spec.specs.declared.source.SourceSpec.{SourceSpec}
-use Rattle.gz_spec.specs.declared.shard.ShardSpec.{ShardSpec}
+use Rattle.gz_spec.specs.Records.{SourceSpec, ShardSpec}
 use Rattle.gz_plain.specs.Definitions as plain
 use Rattle.gz_plain.specs.Definitions.{Definition}
 use Rattle.gz_plain.specs.Order.{Wiring, wiring_of, wirings_of, Apart, IsBeside, AreBefore, AllBefore, AllBelow, AreInOrder}

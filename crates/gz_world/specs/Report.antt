@@ -1,5 +1,5 @@
 -- The report of a world.
-use Rattle.std.specs.Prelude.{ℕ, List, [], ◌∷◌, ◌++◌, length, map, flat_map, Option, Some, None, Bool, if◌then◌else◌, codes}
+use Rattle.std.specs.Prelude.{ℕ, List, [], ◌∷◌, ◌++◌, length, map, flat_map, Option, Some, None, if◌then◌else◌, codes}
 use Rattle.std.specs.Fmt.{decimal}
 use Rattle.std.specs.Ordering.{nat_cmp}
 use Rattle.std.specs.Cmp.Lexicographic.{slice_cmp}
@@ -7,7 +7,7 @@ use Rattle.std.specs.BTreeMap.{insert_entry}
 use Rattle.gz_spec.specs.Links.{framing_in}
 use Rattle.gz_spec.specs.declared.framing.Framing.{Framing}
 use Rattle.gz_spec.specs.declared.framing.Framing.TheVariants.{Lines, FixedFrames, RecoveryLog, Bytes}
-use Rattle.gz_spec.specs.declared.journal.JournalSpec.{JournalSpec}
+use Rattle.gz_spec.specs.Records.{JournalSpec}
 use Rattle.gz_plain.specs.Journals.{Journal, text_of}
 use Rattle.gz_plain.specs.Reports as plain
 use Rattle.gz_plain.specs.Shards as shards

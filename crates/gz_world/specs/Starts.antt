@@ -6,10 +6,7 @@ use Rattle.std.specs.BTreeMap.{insert_entry}
 use Rattle.gz_label.specs.Labels.{values_of}
 use Rattle.gz_spec.specs.declared.app.App.{App}
 use Rattle.gz_spec.specs.declared.app.App.TheVariants as spec
-use Rattle.gz_spec.specs.declared.journal.JournalSpec.{JournalSpec}
-use Rattle.gz_spec.specs.declared.source.SourceSpec.{SourceSpec}
-use Rattle.gz_spec.specs.declared.shard.ShardSpec.{ShardSpec}
-use Rattle.gz_spec.specs.declared.cluster.Specs.{Specs}
+use Rattle.gz_spec.specs.Records.{JournalSpec, SourceSpec, ShardSpec, Specs}
 use Rattle.gz_spec.specs.Joins.{is_new}
 use Rattle.gz_spec.specs.Links.{outputs_of}
 use Rattle.gz_spec.specs.Shards.{app_of}

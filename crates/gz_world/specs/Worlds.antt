@@ -9,7 +9,7 @@ use Rattle.gz_spec.specs.Links.{held}
 use Rattle.gz_spec.specs.Joins.{join_of}
 use Rattle.gz_spec.specs.declared.framing.Framing.{Framing}
 use Rattle.gz_spec.specs.declared.framing.Framing.TheVariants.{Lines, FixedFrames, RecoveryLog, Bytes}
-use Rattle.gz_spec.specs.declared.cluster.Specs.{Specs}
+use Rattle.gz_spec.specs.Records.{Specs}
 use Rattle.gz_spec.specs.declared.error.SpecError.{SpecError}
 use Rattle.gz_keyspace.specs.declared.formats.Joined.{Joined}
 use Rattle.gz_keyspace.specs.Keys.{same_key}

@@ -3,7 +3,7 @@ ghost use Rattle.std.specs.Prelude.{◌≡◌, ◌++◌, ◌≤◌, length, map,
 ghost use Rattle.std.specs.List.{list_all};
 ghost use Rattle.gz_label.specs.Labels.{values_of};
 ghost use Rattle.gz_spec.specs.Links.{are_linked};
-ghost use Rattle.gz_spec.specs.Valid.{is_source, is_shard, are_specs};
+ghost use Rattle.gz_spec.specs.Valid.{is_source, is_shard};
 ghost use Rattle.gz_plain.specs.Cluster.{AreSmallSources, AreSmall, source_named, definition_of as definition_seen, definitions_of as definitions_seen};
 ghost use Rattle.gz_plain.specs.Places.{names_of};
 ghost use Rattle.gz_plain.specs.Runs.{changed};
@@ -26,7 +26,7 @@ struct ShardTable {
 
 impl Model for ShardTable {
     ghost use Rattle.std.specs.Prelude.{List, ℕ};
-    ghost use Rattle.gz_spec.specs.declared.shard.ShardSpec.{ShardSpec};
+    ghost use Rattle.gz_spec.specs.Records.{ShardSpec};
 
     ghost Value = { List (List ℕ × ShardSpec) };
 
@@ -120,6 +120,13 @@ fn names(alloc: Global, journals: &[JournalSpec]) -> Result<Vec<Name>, NoMemory>
     Ok(names)
 }
 
+/// How many journals the specifications have. It takes no memory.
+pub fn count_journals(specs: &Specs) -> usize
+    ensures { result ≡ length specs.now.journals }
+{
+    specs.journals.as_slice().len()
+}
+
 /// Makes the journals and shards of a cluster those of specifications. The first of their journals, so many, are
 /// there, and the others come behind them, empty.
 pub fn change(
@@ -128,7 +135,6 @@ pub fn change(
     specs: &Specs,
     there: usize,
 ) -> Result<(), NoMemory>
-    requires valid { IsTrue (are_specs specs.now) }
     requires linked { IsTrue (are_linked specs.now.journals specs.now.shards) }
     requires there { there ≤ length specs.now.journals }
     requires names { names_of cluster.old.journals ++ names_of_journals (drop there specs.now.journals) ≡ names_of_journals specs.now.journals }

@@ -161,7 +161,7 @@ impl World {
     {
         match self.registry.put(more) {
             Ok(_revision) => {
-                let there = self.specs.journals.as_slice().len();
+                let there = start::count_journals(&self.specs);
                 start::change(alloc, &mut self.cluster, &all, there)?;
                 self.specs = all;
                 Ok(Applied::Done)

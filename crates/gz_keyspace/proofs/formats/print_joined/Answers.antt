@@ -4,4 +4,6 @@ use Rattle.gz_keyspace.proofs.PrintLemmas.{member_reads}
 use Rattle.gz_keyspace.proofs.formats.print_joined.Goals as goal
 
 pub returns-clause-reads_back : goal.returns-clause-reads_back
-returns-clause-reads_back c = λ is. ap (joined_of c.args.joined.now.spec.id) c.in_ok-text.ensures ∙ member_reads c.args.joined.now is
+returns-clause-reads_back c =
+    ap (joined_of c.args.joined.now.spec.id) c.in_ok-text.ensures.text
+    ∙ member_reads c.args.joined.now c.in_ok-text.ensures.valid

@@ -1,6 +1,4 @@
-use Rattle.std.proofs.Common.{◌≡◌, ◌+◌, drop, true}
-use Rattle.std.specs.List.{list_all}
-use Rattle.gz_keyspace.specs.Formats.{is_joined}
+use Rattle.std.proofs.Common.{◌≡◌, ◌+◌, drop}
 use Rattle.gz_keyspace.specs.Space.{revision_of}
 use Rattle.gz_registry.specs.Registered.{seen, members_in, each_joined, OnlyMembers, AreNew}
 use Rattle.gz_registry.proofs.space.admit_each.Given as goal
@@ -8,7 +6,6 @@ use Rattle.gz_registry.proofs.space.admit_each.Given as goal
 abbrev pub invariant-loop-one : goal.invariant-loop-one
 invariant-loop-one l = record {
   value : each_joined (drop l.one-index l.joined) (seen l.keys l.members.entries) ≡ each_joined l.joined (seen l.fn.keys l.fn.members.entries);
-  form : list_all is_joined (drop l.one-index l.joined) ≡ true;
   new : AreNew (drop l.one-index l.joined) (members_in l.members.entries);
   only : OnlyMembers (seen l.keys l.members.entries);
   count : revision_of l.keys.changes ≡ revision_of l.fn.keys.changes + l.one-index;

@@ -1,11 +1,6 @@
-use Rattle.std.proofs.Common.{◌≡◌, [], drop, map, true}
-use Rattle.std.specs.List.{list_all}
-use Rattle.gz_spec.specs.Valid.{is_journal}
+use Rattle.std.proofs.Common.{◌≡◌, [], drop, map}
 use Rattle.gz_registry.specs.Keys.{put_named, journal_write}
 use Rattle.gz_registry.proofs.writes.journal_table.Given as goal
 
 abbrev pub invariant-loop-journal : goal.invariant-loop-journal
-invariant-loop-journal l = record {
-  put : put_named (map journal_write (drop l.journal-index l.journals)) l.table.entries ≡ put_named (map journal_write l.journals) [];
-  lawful : list_all is_journal (drop l.journal-index l.journals) ≡ true;
-}
+invariant-loop-journal l = put_named (map journal_write (drop l.journal-index l.journals)) l.table.entries ≡ put_named (map journal_write l.journals) []

@@ -1,6 +1,6 @@
 use Rattle.std.proofs.Common.{◌∙◌, List, Bool, map}
 use Rattle.gz_spec.specs.Cycles.{feeds}
-use Rattle.gz_spec.specs.declared.shard.ShardSpec.{ShardSpec}
+use Rattle.gz_spec.specs.Records.{ShardSpec}
 use Rattle.gz_spec.proofs.Eachs.{map_turn}
 use Rattle.gz_spec.proofs.cycles.fed_rows.Goals as goal
 

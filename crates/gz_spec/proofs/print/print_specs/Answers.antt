@@ -2,7 +2,11 @@ use Rattle.gz_spec.proofs.SpecsBack.{part_back, specs_back}
 use Rattle.gz_spec.proofs.print.print_specs.Goals as goal
 
 pub returns-clause-reads_back : goal.returns-clause-reads_back
-returns-clause-reads_back c = part_back c.args.specs.now _ _ c.in_ok-value.ensures c.in_ok-text.ensures.reads_back
+returns-clause-reads_back c =
+    part_back c.args.specs.now _ _ c.in_ok-value.ensures c.in_ok-text.ensures.reads_back
+    (rw (← c.specs.view_is) c.specs.invariant)
 
 pub returns-clause-judged : goal.returns-clause-judged
-returns-clause-judged c = specs_back c.args.specs.now _ _ c.in_ok-value.ensures c.in_ok-text.ensures.reads_back
+returns-clause-judged c =
+    specs_back c.args.specs.now _ _ c.in_ok-value.ensures c.in_ok-text.ensures.reads_back
+    (rw (← c.specs.view_is) c.specs.invariant)

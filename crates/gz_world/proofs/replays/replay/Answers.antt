@@ -1,5 +1,4 @@
 use Rattle.std.proofs.Common.{◌≡◌, Err, sym, ap}
-use Rattle.gz_scenario.specs.declared.error.ScenarioError.{ScenarioError}
 use Rattle.gz_world.specs.declared.replays.ReplayError.{ReplayError}
 use Rattle.gz_world.specs.declared.replays.ReplayError.TheVariants.{Refused}
 use Rattle.gz_world.proofs.Lines.{first_short}

@@ -13,7 +13,7 @@ follow-requires-clause-behind c =
 
 pub invariant_of-self-in-Ok : goal.invariant_of-self-in-Ok
 invariant_of-self-in-Ok c =
-    let ws = c.as_slice.ensures ∙ c.in_ok-writes.ensures in (
+    let ws = c.as_slice.ensures ∙ c.in_ok-writes.ensures.value in (
       only_put c.args.part.now c.as_slice.result.now c.self.inside.keys c.write_all.new.keys (members_in c.self.inside.members.entries) c.in_ok-revision.ensures.ok ws c.self.invariant.0,
       c.in-Ok.ensures.count ∙ c.self.invariant.1,
       c.in-Ok.ensures.value,

@@ -1,7 +1,27 @@
-use Rattle.gz_spec.proofs.Joining.{joined_is_valid}
+use Rattle.gz_spec.specs.Records.{Specs}
+use Rattle.gz_spec.proofs.Joining.{specs_joined}
 use Rattle.gz_spec.proofs.cluster.Specs.join.Goals as goal
 
+pub invariant_of-specs : goal.invariant_of-specs
+invariant_of-specs c =
+    let own : Specs = record {
+      journals = c.self.inside.journals;
+      shards = c.self.inside.shards;
+      brokers = c.self.inside.brokers;
+      consumers = c.self.inside.consumers;
+    } in
+    let more : Specs = record {
+      journals = c.more.inside.journals;
+      shards = c.more.inside.shards;
+      brokers = c.more.inside.brokers;
+      consumers = c.more.inside.consumers;
+    } in
+    specs_joined own more c.in_ok-join_journals.field-0 c.in_ok-join_shards.field-0 c.in_ok-copy.field-0
+    c.in_ok-copy-2.field-0 c.self.invariant c.more.invariant c.in_ok-join_journals.ensures.valid
+    c.in_ok-join_shards.ensures.valid c.in_ok-copy.ensures c.in_ok-copy-2.ensures
+
+pub invariant_of-specs-2 : goal.invariant_of-specs-2
+invariant_of-specs-2 c = invariant_of-specs c.before.before.before
+
 pub returns-clause-valid : goal.returns-clause-valid
-returns-clause-valid c =
-    joined_is_valid c.args.self.now c.args.more.now c.in_ok-specs.specs _ _ _ _ _ _ c.in_ok-specs.ensures
-    c.as_slice-3.ensures c.in_ok-refuse_more.ensures c.as_slice-4.ensures c.in_ok-refuse_more-2.ensures
+returns-clause-valid c = invariant_of-specs c.before.before.before
