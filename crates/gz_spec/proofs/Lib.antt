@@ -3,6 +3,7 @@ pub mod Counts
 pub mod Apps
 pub mod Eachs
 pub mod Bits
+pub mod ByName
 pub mod Reaching
 pub mod Datas
 pub mod Fronts

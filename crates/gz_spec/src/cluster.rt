@@ -8,10 +8,11 @@ ghost use Rattle.gz_spec.specs.Shards.{next_shard};
 ghost use Rattle.gz_spec.specs.Members.{next_member};
 ghost use Rattle.gz_spec.specs.Specs.{name_of_journal, id_of_shard, id_of_member, journals_in, shards_in, members_in, part_in, part_of, acyclic, whole, specs_of};
 ghost use Rattle.gz_spec.specs.Valid.{are_journals, are_shards, are_specs};
-ghost use Rattle.gz_spec.specs.Joins.{joined, join_of};
+ghost use Rattle.gz_spec.specs.Joins.{contents_kept, joined, join_of};
 ghost use Rattle.gz_spec.specs.Cycles.{first_cycle, IsToldCycle};
 
 use crate::SpecError;
+use crate::by_name::{JournalsByName, ShardsById};
 use crate::cycles::first_cycle;
 use crate::form::{parse, read_items_or_none, refuse_unknown};
 use crate::joins::{joined_journals, joined_shards, refuse_changed, refuse_more};
@@ -393,11 +394,12 @@ fn refuse_cycle(alloc: Global, shards: &[ShardSpec]) -> Result<(), SpecError>
 
 /// Refuses shards the first of which names a journal that isn't there, and then shards one of which
 /// reaches itself.
-#[tactic(auto, unfolding(crate::specs::Specs::whole))]
+#[tactic(auto, using(crate::proofs::ByName::specs_fresh), unfolding(crate::specs::Specs::whole))]
 fn refuse_broken(alloc: Global, specs: &Specs) -> Result<(), SpecError>
     ensures { Gives (λ _. specs.now) result (whole specs.now) }
 {
-    refuse_unlinked(alloc, specs.journals.as_slice(), specs.shards.as_slice())?;
+    let journals = JournalsByName::of(alloc, specs.journals.as_slice())?;
+    refuse_unlinked(alloc, &journals, specs.shards.as_slice())?;
     refuse_cycle(alloc, specs.shards.as_slice())?;
     Ok(())
 }
@@ -414,25 +416,46 @@ pub fn read_specs(alloc: Global, bytes: &[u8]) -> Result<Specs, SpecError>
     Ok(specs)
 }
 
+/// Refuses the first of more that changes what the journal of its name holds.
+#[tactic(auto, using(crate::proofs::ByName::journals_fresh))]
+fn refuse_changes(alloc: Global, old: &Journals, more: &Journals) -> Result<(), SpecError>
+    requires { IsTrue (are_journals old.now) }
+    ensures { Gives (λ u. u) result (contents_kept old.now 0 more.now) }
+{
+    let here = JournalsByName::of(alloc, old.as_slice())?;
+    refuse_changed(alloc, &here, more.as_slice())?;
+    Ok(())
+}
+
 /// The journals of both. BadNumber where there are more than 1,024.
+#[tactic(auto, using(crate::proofs::ByName::journals_fresh))]
 fn join_journals(alloc: Global, old: &Journals, more: &Journals) -> Result<Journals, SpecError>
+    requires old { IsTrue (are_journals old.now) }
+    requires more { IsTrue (are_journals more.now) }
     ensures gives { Gives (λ _. tt) result (no_more_than 1024 (codes "journals") (length (joined name_of_journal old.now more.now))) }
     ensures both { IfOk result (λ js. js ≡ joined name_of_journal old.now more.now) }
-    ensures valid { IfOk result (λ js. IsTrue (are_journals old.now) → IsTrue (are_journals more.now) → IsTrue (are_journals js)) }
+    ensures valid { IfOk result (λ js. IsTrue (are_journals js)) }
 {
-    let both = joined_journals(alloc, old.as_slice(), more.as_slice())?;
+    let here = JournalsByName::of(alloc, old.as_slice())?;
+    let there = JournalsByName::of(alloc, more.as_slice())?;
+    let both = joined_journals(alloc, &here, &there)?;
     let journals = Journals::of(both);
     refuse_more(alloc, "journals", journals.as_slice().len(), MAX_JOURNALS)?;
     Ok(journals)
 }
 
 /// The shards of both. BadNumber where there are more than 256.
+#[tactic(auto, using(crate::proofs::ByName::shards_fresh))]
 fn join_shards(alloc: Global, old: &Shards, more: &Shards) -> Result<Shards, SpecError>
+    requires old { IsTrue (are_shards old.now) }
+    requires more { IsTrue (are_shards more.now) }
     ensures gives { Gives (λ _. tt) result (no_more_than 256 (codes "shards") (length (joined id_of_shard old.now more.now))) }
     ensures both { IfOk result (λ ss. ss ≡ joined id_of_shard old.now more.now) }
-    ensures valid { IfOk result (λ ss. IsTrue (are_shards old.now) → IsTrue (are_shards more.now) → IsTrue (are_shards ss)) }
+    ensures valid { IfOk result (λ ss. IsTrue (are_shards ss)) }
 {
-    let both = joined_shards(alloc, old.as_slice(), more.as_slice())?;
+    let here = ShardsById::of(alloc, old.as_slice())?;
+    let there = ShardsById::of(alloc, more.as_slice())?;
+    let both = joined_shards(alloc, &here, &there)?;
     let shards = Shards::of(both);
     refuse_more(alloc, "shards", shards.as_slice().len(), MAX_SHARDS)?;
     Ok(shards)
@@ -461,7 +484,7 @@ impl Specs {
         ensures valid { IfOk result (λ specs. IsTrue (are_specs specs)) }
     {
         let alloc = self.journals.allocator();
-        refuse_changed(alloc, self.journals.as_slice(), more.journals.as_slice())?;
+        refuse_changes(alloc, &self.journals, &more.journals)?;
         let specs = Specs {
             journals: join_journals(alloc, &self.journals, &more.journals)?,
             shards: join_shards(alloc, &self.shards, &more.shards)?,

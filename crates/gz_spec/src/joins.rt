@@ -1,39 +1,16 @@
 //! Specifications with more of them.
-ghost use Rattle.std.specs.Prelude.{◌≡◌, ◌++◌, IfOk, map, filter, option_map, codes, length};
+ghost use Rattle.std.specs.Prelude.{◌≡◌, ◌++◌, IfOk, map, filter, codes, length};
 ghost use Rattle.gz_label.specs.Labels.{labels_named};
 ghost use Rattle.gz_spec.specs.Outcomes.{Gives};
 ghost use Rattle.gz_spec.specs.Lists.{no_more_than};
 ghost use Rattle.gz_spec.specs.Specs.{name_of_journal, id_of_shard};
 ghost use Rattle.gz_spec.specs.Joins.{named_in, replaced, is_new, joined, same_content, keeps_content, contents_kept};
 
+use crate::by_name::{JournalsByName, ShardsById};
 use crate::paths::{path_below, path_of_item};
 use crate::{JournalSpec, ShardSpec, SpecError};
-use gz_label::{Blob, LabelSet, Name, NoMemory};
+use gz_label::{Blob, LabelSet, NoMemory};
 use std::alloc::Global;
-
-/// The journal of this name, if there is one.
-fn journal_named<'a>(journals: &'a [JournalSpec], name: &Name) -> Option<&'a JournalSpec>
-    ensures { option_map (λ j. j.now) result ≡ named_in name_of_journal name.now journals.now }
-{
-    for journal in journals {
-        if journal.name.as_slice() == name.as_slice() {
-            return Some(journal);
-        }
-    }
-    None
-}
-
-/// The shard of this id, if there is one.
-fn shard_named<'a>(shards: &'a [ShardSpec], id: &Name) -> Option<&'a ShardSpec>
-    ensures { option_map (λ s. s.now) result ≡ named_in id_of_shard id.now shards.now }
-{
-    for shard in shards {
-        if shard.id.as_slice() == id.as_slice() {
-            return Some(shard);
-        }
-    }
-    None
-}
 
 fn same_content(labels: &LabelSet, others: &LabelSet) -> bool
     ensures { result ≡ same_content labels.now others.now }
@@ -42,10 +19,10 @@ fn same_content(labels: &LabelSet, others: &LabelSet) -> bool
 }
 
 /// Whether the journal holds what the one of its name among the old ones does, if there is one.
-fn keeps_content(old: &[JournalSpec], journal: &JournalSpec) -> bool
+fn keeps_content(old: &JournalsByName, journal: &JournalSpec) -> bool
     ensures { result ≡ keeps_content (named_in name_of_journal journal.now.name old.now) journal.now }
 {
-    match journal_named(old, &journal.name) {
+    match old.named(&journal.name) {
         None => true,
         Some(replaced) => same_content(&replaced.labels, &journal.labels),
     }
@@ -54,7 +31,7 @@ fn keeps_content(old: &[JournalSpec], journal: &JournalSpec) -> bool
 /// Refuses the first journal that changes what the one of its name among the old ones holds.
 pub fn refuse_changed(
     alloc: Global,
-    old: &[JournalSpec],
+    old: &JournalsByName,
     more: &[JournalSpec],
 ) -> Result<(), SpecError>
     ensures { Gives (λ u. u) result (contents_kept old.now 0 more.now) }
@@ -75,13 +52,13 @@ pub fn refuse_changed(
 fn replaced_journals(
     alloc: Global,
     old: &[JournalSpec],
-    more: &[JournalSpec],
+    more: &JournalsByName,
 ) -> Result<Vec<JournalSpec>, NoMemory>
     ensures { IfOk result (λ js. js.items ≡ map (replaced name_of_journal more.now) old.now) }
 {
     let mut journals = Vec::new(alloc);
     for journal in old {
-        let chosen = journal_named(more, &journal.name).unwrap_or(journal);
+        let chosen = more.named(&journal.name).unwrap_or(journal);
         let copied = chosen.copy()?;
         journals.push(copied)?;
     }
@@ -91,14 +68,14 @@ fn replaced_journals(
 /// The journals of both.
 pub fn joined_journals(
     alloc: Global,
-    old: &[JournalSpec],
-    more: &[JournalSpec],
+    old: &JournalsByName,
+    more: &JournalsByName,
 ) -> Result<Vec<JournalSpec>, NoMemory>
     ensures { IfOk result (λ js. js.items ≡ joined name_of_journal old.now more.now) }
 {
-    let mut journals = replaced_journals(alloc, old, more)?;
-    for journal in more {
-        if journal_named(old, &journal.name).is_none() {
+    let mut journals = replaced_journals(alloc, old.as_slice(), more)?;
+    for journal in more.as_slice() {
+        if old.named(&journal.name).is_none() {
             let copied = journal.copy()?;
             journals.push(copied)?;
         }
@@ -110,13 +87,13 @@ pub fn joined_journals(
 fn replaced_shards(
     alloc: Global,
     old: &[ShardSpec],
-    more: &[ShardSpec],
+    more: &ShardsById,
 ) -> Result<Vec<ShardSpec>, NoMemory>
     ensures { IfOk result (λ ss. ss.items ≡ map (replaced id_of_shard more.now) old.now) }
 {
     let mut shards = Vec::new(alloc);
     for shard in old {
-        let chosen = shard_named(more, &shard.id).unwrap_or(shard);
+        let chosen = more.named(&shard.id).unwrap_or(shard);
         let copied = chosen.copy()?;
         shards.push(copied)?;
     }
@@ -126,14 +103,14 @@ fn replaced_shards(
 /// The shards of both.
 pub fn joined_shards(
     alloc: Global,
-    old: &[ShardSpec],
-    more: &[ShardSpec],
+    old: &ShardsById,
+    more: &ShardsById,
 ) -> Result<Vec<ShardSpec>, NoMemory>
     ensures { IfOk result (λ ss. ss.items ≡ joined id_of_shard old.now more.now) }
 {
-    let mut shards = replaced_shards(alloc, old, more)?;
-    for shard in more {
-        if shard_named(old, &shard.id).is_none() {
+    let mut shards = replaced_shards(alloc, old.as_slice(), more)?;
+    for shard in more.as_slice() {
+        if old.named(&shard.id).is_none() {
             let copied = shard.copy()?;
             shards.push(copied)?;
         }

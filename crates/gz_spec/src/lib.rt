@@ -2,6 +2,7 @@
 #![tactic(auto)]
 
 mod app;
+mod by_name;
 mod cluster;
 mod cycles;
 mod error;

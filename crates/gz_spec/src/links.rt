@@ -5,10 +5,11 @@ ghost use Rattle.gz_label.specs.Labels.{values_of};
 ghost use Rattle.gz_spec.specs.Outcomes.{Gives};
 ghost use Rattle.gz_spec.specs.Links.{held, is_lines, is_log, is_readable, sources_linked, log_name, log_linked, outputs_linked, shard_linked, all_linked};
 
+use crate::by_name::JournalsByName;
 use crate::framing::Framing;
 use crate::paths::{path_below, path_of_item};
 use crate::{JournalSpec, ShardSpec, SourceSpec, SpecError};
-use gz_label::{Blob, Label, NoMemory};
+use gz_label::{Blob, Label, Name, NoMemory};
 use std::alloc::Global;
 
 /// What the journal of this name holds, if there is one. Time goes with the number of journals.
@@ -52,14 +53,14 @@ fn is_log(framing: Option<Framing>) -> bool
 
 fn refuse_sources(
     alloc: Global,
-    journals: &[JournalSpec],
+    journals: &JournalsByName,
     path: &Blob,
     sources: &[SourceSpec],
 ) -> Result<(), SpecError>
     ensures { Gives (λ u. u) result (sources_linked journals.now path.now 0 sources.now) }
 {
     for (k, source) in sources.iter().enumerate() {
-        if !is_readable(held(journals, source.journal.as_slice())) {
+        if !is_readable(journals.held(&source.journal)) {
             return Err(SpecError::NoJournal {
                 path: path_of_item(alloc, path, k)?,
             });
@@ -68,25 +69,26 @@ fn refuse_sources(
     Ok(())
 }
 
-fn log_name(alloc: Global, shard: &ShardSpec) -> Result<Blob, NoMemory>
+fn log_name(alloc: Global, shard: &ShardSpec) -> Result<Name, NoMemory>
     ensures { IfOk result (λ name. name ≡ log_name shard.now) }
 {
-    let mut name = Blob::of(alloc, shard.recovery_log_prefix.as_slice())?;
-    name.append(b"/")?;
-    name.append(shard.id.as_slice())?;
+    let mut text = String::from_str(alloc, shard.recovery_log_prefix.as_str())?;
+    text.push_str("/")?;
+    text.push_str(shard.id.as_str())?;
+    let name = Name::of(alloc, text.as_str())?;
     Ok(name)
 }
 
 fn refuse_log(
     alloc: Global,
-    journals: &[JournalSpec],
+    journals: &JournalsByName,
     path: &Blob,
     shard: &ShardSpec,
 ) -> Result<(), SpecError>
     ensures { Gives (λ u. u) result (log_linked journals.now path.now shard.now) }
 {
     let name = log_name(alloc, shard)?;
-    if !is_log(held(journals, name.as_slice())) {
+    if !is_log(journals.held(&name)) {
         return Err(SpecError::NoJournal {
             path: path_below(alloc, path, "recovery_log_prefix")?,
         });
@@ -95,13 +97,11 @@ fn refuse_log(
 }
 
 /// Whether each value of the labels `output` names a journal of lines.
-fn are_lines(journals: &[JournalSpec], labels: &[Label]) -> bool
+fn are_lines(journals: &JournalsByName, labels: &[Label]) -> bool
     ensures { result ≡ list_all (λ o. is_lines (held journals.now o)) (values_of (codes "output") labels.now) }
 {
     for label in labels {
-        if label.name.as_slice() == b"output".as_slice()
-            && !is_lines(held(journals, label.value.as_slice()))
-        {
+        if label.name.as_slice() == b"output".as_slice() && !is_lines(journals.held(&label.value)) {
             return false;
         }
     }
@@ -110,7 +110,7 @@ fn are_lines(journals: &[JournalSpec], labels: &[Label]) -> bool
 
 fn refuse_outputs(
     alloc: Global,
-    journals: &[JournalSpec],
+    journals: &JournalsByName,
     path: &Blob,
     shard: &ShardSpec,
 ) -> Result<(), SpecError>
@@ -127,7 +127,7 @@ fn refuse_outputs(
 #[tactic(auto, unfolding(crate::specs::Links::shard_linked))]
 fn refuse_shard(
     alloc: Global,
-    journals: &[JournalSpec],
+    journals: &JournalsByName,
     path: &Blob,
     shard: &ShardSpec,
 ) -> Result<(), SpecError>
@@ -143,7 +143,7 @@ fn refuse_shard(
 /// Refuses the first shard that names a journal that isn't there, or one with content of another type.
 pub fn refuse_unlinked(
     alloc: Global,
-    journals: &[JournalSpec],
+    journals: &JournalsByName,
     shards: &[ShardSpec],
 ) -> Result<(), SpecError>
     ensures { Gives (λ u. u) result (all_linked journals.now 0 shards.now) }

@@ -1,6 +1,12 @@
+use Rattle.std.proofs.lemmas.Bool.{and_parts}
 use Rattle.gz_spec.specs.Records.{Specs}
+use Rattle.gz_spec.specs.Valid.{are_journals, are_shards}
 use Rattle.gz_spec.proofs.Joining.{specs_joined}
 use Rattle.gz_spec.proofs.cluster.Specs.join.Goals as goal
+
+pub join_shards-requires-clause-old : goal.join_shards-requires-clause-old
+join_shards-requires-clause-old c =
+    (and_parts (are_shards c.self.inside.shards) _ (and_parts (are_journals c.self.inside.journals) _ c.self.invariant).1).0
 
 pub invariant_of-specs : goal.invariant_of-specs
 invariant_of-specs c =
@@ -17,8 +23,8 @@ invariant_of-specs c =
       consumers = c.more.inside.consumers;
     } in
     specs_joined own more c.in_ok-join_journals.field-0 c.in_ok-join_shards.field-0 c.in_ok-copy.field-0
-    c.in_ok-copy-2.field-0 c.self.invariant c.more.invariant c.in_ok-join_journals.ensures.valid
-    c.in_ok-join_shards.ensures.valid c.in_ok-copy.ensures c.in_ok-copy-2.ensures
+    c.in_ok-copy-2.field-0 c.self.invariant c.more.invariant (λ _ _. c.in_ok-join_journals.ensures.valid)
+    (λ _ _. c.in_ok-join_shards.ensures.valid) c.in_ok-copy.ensures c.in_ok-copy-2.ensures
 
 pub invariant_of-specs-2 : goal.invariant_of-specs-2
 invariant_of-specs-2 c = invariant_of-specs c.before.before.before
