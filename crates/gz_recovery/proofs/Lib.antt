@@ -1,0 +1,4 @@
+pub mod Below
+pub mod Maps
+pub mod Printing
+pub mod Again

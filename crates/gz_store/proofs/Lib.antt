@@ -1,0 +1,2 @@
+pub mod LastCommits
+pub mod Rows
