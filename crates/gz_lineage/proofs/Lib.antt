@@ -1,0 +1,24 @@
+pub mod Prefixes
+pub mod Landing
+pub mod Listed
+pub mod History
+pub mod Facts
+pub mod Frame
+pub mod Moves
+pub mod Members
+pub mod Primary
+pub mod Opening
+pub mod Reports
+pub mod Choice
+pub mod KeySteps
+pub mod Invariant
+pub mod NodeSteps
+pub mod KeySpace
+pub mod Run
+pub mod Safe
+pub mod Handover
+pub mod Going
+pub mod Resets
+pub mod Told
+pub mod Rows
+mod Tells
