@@ -3,6 +3,7 @@
 #![tactic(auto)]
 
 mod agreement;
+mod fragments;
 mod journals;
 mod keys;
 mod messages;
@@ -15,7 +16,8 @@ use std::alloc::Global;
 use std::process::ExitCode;
 use std::{env, io};
 
-const USAGE: &str = "usage: gz_bench lines|feed|append|read|txn|specs|place|keep|agree COUNT";
+const USAGE: &str =
+    "usage: gz_bench lines|feed|append|read|txn|fragments|specs|place|keep|agree COUNT";
 
 /// What came of the work, or None where there is no such work.
 fn done(alloc: Global, work: &str, count: u32) -> Result<Option<u64>, NoMemory> {
@@ -25,6 +27,7 @@ fn done(alloc: Global, work: &str, count: u32) -> Result<Option<u64>, NoMemory> 
         "append" => journals::append_all(alloc, count)?,
         "read" => journals::read_all(alloc, count)?,
         "txn" => keys::write_all(alloc, count)?,
+        "fragments" => fragments::cover_all(alloc, count)?,
         "place" => placements::place_all(alloc, count)?,
         "keep" => placements::place_again(alloc, count)?,
         "specs" => specifications::read_and_print(alloc, count)?,

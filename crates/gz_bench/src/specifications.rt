@@ -1,7 +1,8 @@
 //! Work with specifications.
 
 use gz_label::{Blob, NoMemory};
-use gz_spec::{SpecError, print_specs, read_specs};
+use gz_links::{SpecError, read_specs};
+use gz_print::print_specs;
 use std::alloc::Global;
 
 /// How many sources a shard has.

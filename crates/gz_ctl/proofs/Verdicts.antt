@@ -2,24 +2,43 @@
 use Rattle.std.proofs.Common.{◌≡◌, ◌≢◌, ◌⊎◌, inl, inr, Bool, true, false, ℕ, List, Option, Some, None, Ok, Err, refl, sym, ◌∙◌, subst}
 use Rattle.std.specs.Io.KnownBytes.{Appends, IsAtEnd}
 use Rattle.gz_model.specs.Faults.{HasRisen}
+use Rattle.gz_model.specs.Lines.{lines_of}
 use Rattle.gz_model.specs.Told.{AppendsFront}
 use Rattle.gz_base.specs.declared.exit.Exit.{Exit}
 use Rattle.gz_base.specs.declared.exit.Exit.TheVariants.{Done, Usage, BadInput, ReadFault, WriteFault, FileFault, PeerFault, Refused, Lost, NoMemory, Mismatch, HistoryFull, SpawnFault, BadPeer}
 use Rattle.gz_scenario.specs.declared.error.ScenarioError.{ScenarioError}
-use Rattle.gz_world.specs.Worlds.{World, settled}
+use Rattle.gz_world.specs.Kept.{KeepsPromise}
+use Rattle.gz_world.specs.Worlds.{World, IsRun, settled}
 use Rattle.gz_world.specs.Report.{report_of}
-use Rattle.gz_world.specs.Run.{outcome_from, refusal_line}
+use Rattle.gz_world.specs.Run.{outcome_of, outcome_from, IsSaid, refusal_line}
 use Rattle.gz_world.specs.Told.{HasOutcome}
 use Rattle.gz_plain.specs.Promise.{AllExactlyOnce}
 use Rattle.gz_plain.specs.Order.{AllRest}
+use Rattle.gz_plain.specs.Reports.{AllTellCaught, AllUpToDate}
 use Rattle.gz_ctl.specs.Commands.{usage_text, read_fault_text}
-use Rattle.gz_ctl.specs.Answers.{IsVerdict, IsReport, IsRefusal, IsReplayText, WritesReport, WritesRefusal, WritesFront, IsAnswer, HasReport, KeepsPromise}
+use Rattle.gz_ctl.specs.Answers.{IsVerdict, IsReport, IsRefusal, IsReplayText, WritesReport, WritesRefusal, WritesFront, IsAnswer, HasReport, KeepsIf, KeepsAlong}
 
 -- ---- what is written
 
-report_written : (input old new : Option (List ℕ)) (text : List ℕ) → IsReport input text → Appends old new text → WritesReport input old new
-report_written None old new text is put = tt
-report_written (Some input) old new text is put = (is.0, is.1, rw (← is.2) put)
+-- what is promised of each run
+pub record Laws : Type 0 where
+  pub run : (lines : List (List ℕ)) (w : World) → outcome_from lines ≡ Ok (Some w) → IsRun w
+  pub said : (lines : List (List ℕ)) (w : World) → outcome_from lines ≡ Ok (Some w) → IsSaid lines w
+  pub once : (w : World) → IsRun w → AllExactlyOnce w.cluster.journals w.cluster.shards
+  pub rests : (w : World) → IsRun w → AllRest (settled w).cluster.journals (settled w).cluster.shards
+  pub told : (w : World) → IsRun w → AllTellCaught w.cluster.journals w.cluster.shards
+  pub settled_told : (w : World) → IsRun w → AllUpToDate (settled w).cluster.journals (settled w).cluster.shards
+
+keeps : Laws → (lines : List (List ℕ)) (w : World) → outcome_from lines ≡ Ok (Some w) → KeepsPromise w
+keeps l lines w is = let r = l.run lines w is in record { run = r; once = l.once w r; rests = l.rests w r; told = l.told w r; settled_told = l.settled_told w r }
+
+keeps_if : Laws → (input : List ℕ) (w : Option World) → outcome_of input ≡ Ok w → KeepsIf w
+keeps_if l input None is = tt
+keeps_if l input (Some w) is = keeps l (lines_of input) w is
+
+report_written : Laws → (input old new : Option (List ℕ)) (text : List ℕ) → IsReport input text → Appends old new text → WritesReport input old new
+report_written l None old new text is put = tt
+report_written l (Some input) old new text is put = (is.0, is.1, keeps_if l input is.0 is.1, rw (← is.2) put)
 
 refusal_written : (input old new : Option (List ℕ)) (text : List ℕ) → IsRefusal input text → Appends old new text → WritesRefusal input old new
 refusal_written None old new text is put = tt
@@ -78,12 +97,12 @@ same_exit result exit answer (inr is) said other = absurd (other (sym said ∙ i
 same_result : (result exit answer : Exit) → (result ≡ exit) ⊎ (result ≡ WriteFault) → result ≡ answer → (answer ≡ WriteFault → ⊥) → result ≡ exit
 same_result result exit answer says said other = said ∙ sym (same_exit result exit answer says said other)
 
-pub verdict_done : (result exit : Exit) (text : List ℕ) (left rest old new : Option (List ℕ)) (faults risen : ℕ) → IsVerdict exit text left rest faults risen → (result ≡ exit) ⊎ (result ≡ WriteFault) → (result ≡ exit → Appends old new text)
+pub verdict_done : Laws → (result exit : Exit) (text : List ℕ) (left rest old new : Option (List ℕ)) (faults risen : ℕ) → IsVerdict exit text left rest faults risen → (result ≡ exit) ⊎ (result ≡ WriteFault) → (result ≡ exit → Appends old new text)
     → result ≡ Done → WritesReport left old new × IsAtEnd rest
-verdict_done result exit text left rest old new faults risen v says put is =
+verdict_done l result exit text left rest old new faults risen v says put is =
     let other : Done ≡ WriteFault → ⊥ = λ e. cc in
     let done = subst (λ (e : Exit). IsVerdict e text left rest faults risen) (same_exit result exit Done says is other) v in
-    (report_written left old new text done.0 (put (same_result result exit Done says is other)), done.1)
+    (report_written l left old new text done.0 (put (same_result result exit Done says is other)), done.1)
 
 pub verdict_refused : (result exit : Exit) (text : List ℕ) (left rest old new : Option (List ℕ)) (faults risen : ℕ) → IsVerdict exit text left rest faults risen → (result ≡ exit) ⊎ (result ≡ WriteFault) → (result ≡ exit → Appends old new text)
     → result ≡ BadInput → WritesRefusal left old new
@@ -164,10 +183,9 @@ refusal_is None refusal text outcome is = tt
 refusal_is (Some input) refusal text outcome is = (refusal, outcome, is)
 
 -- the promise of every run is that of this input's
-pub promise_kept : ((lines : List (List ℕ)) (w : World) → outcome_from lines ≡ Ok (Some w) → AllExactlyOnce w.cluster.journals w.cluster.shards)
-    → ((lines : List (List ℕ)) (w : World) → outcome_from lines ≡ Ok (Some w) → AllRest (settled w).cluster.journals (settled w).cluster.shards) → (left : Option (List ℕ)) → KeepsPromise left
-promise_kept law rests None = tt
-promise_kept law rests (Some input) = λ front w begins gives. (law front w gives, rests front w gives)
+pub promise_kept : Laws → (left : Option (List ℕ)) → KeepsAlong left
+promise_kept l None = tt
+promise_kept l (Some input) = λ prefix w begins gives. (l.said prefix w gives, keeps l prefix w gives)
 
 -- a verdict is neither of these
 pub verdict_no_usage : (result exit : Exit) (text : List ℕ) (left rest : Option (List ℕ)) (faults risen : ℕ) → IsVerdict exit text left rest faults risen → (result ≡ exit) ⊎ (result ≡ WriteFault) → result ≡ Usage → ⊥

@@ -6,19 +6,23 @@ use Rattle.gz_model.specs.Lines.{lines_of}
 use Rattle.gz_model.specs.Prefix.{IsPrefix}
 use Rattle.gz_model.specs.Told.{AppendsFront}
 use Rattle.gz_scenario.specs.declared.error.ScenarioError.{ScenarioError}
-use Rattle.gz_plain.specs.Promise.{AllExactlyOnce}
-use Rattle.gz_plain.specs.Order.{AllRest}
 use Rattle.gz_base.specs.declared.exit.Exit.{Exit}
 use Rattle.gz_base.specs.declared.exit.Exit.TheVariants.{Done, Usage, BadInput, ReadFault, WriteFault, FileFault, PeerFault, Refused, Lost, NoMemory, Mismatch, HistoryFull, SpawnFault, BadPeer}
-use Rattle.gz_world.specs.Worlds.{World, settled}
+use Rattle.gz_world.specs.Kept.{KeepsPromise}
+use Rattle.gz_world.specs.Worlds.{World}
 use Rattle.gz_world.specs.Report.{report_if}
-use Rattle.gz_world.specs.Run.{outcome_of, outcome_from, refusal_line}
+use Rattle.gz_world.specs.Run.{outcome_of, outcome_from, IsSaid, refusal_line}
 use Rattle.gz_ctl.specs.Commands.{usage_text, read_fault_text}
 
--- the lines of the bytes give a run, and its report was written
+-- the promise is kept of the world, where there is one: an empty input starts none
+abbrev pub KeepsIf : Option World → Type 0
+KeepsIf None = ⊤
+KeepsIf (Some w) = KeepsPromise w
+
+-- The lines of the bytes give a run, of whose world the promise is kept, and its report was written.
 abbrev pub WritesReport : Option (List ℕ) → Option (List ℕ) → Option (List ℕ) → Type 0
 WritesReport None old new = ⊤
-WritesReport (Some input) old new = (w : Option World) × (outcome_of input ≡ Ok w) × Appends old new (report_if w)
+WritesReport (Some input) old new = (w : Option World) × (outcome_of input ≡ Ok w) × KeepsIf w × Appends old new (report_if w)
 
 -- a line of the bytes is refused, and that was written
 abbrev pub WritesRefusal : Option (List ℕ) → Option (List ℕ) → Option (List ℕ) → Type 0
@@ -39,15 +43,11 @@ IsText true input risen text = IsReplayText input risen text
 abbrev pub WritesFront : Bool → Option (List ℕ) → Type 0 → Option (List ℕ) → Option (List ℕ) → Type 0
 WritesFront command input risen old new = (text : List ℕ) × IsText command input risen text × AppendsFront old new text
 
--- The promise: after each front of the lines, each of the run's shards that kept the definition that it began with has
--- taken each committed message of its sources once and in order, and readers of its outputs accept what its application
--- puts out for them. And a settle then ends with each of them at rest: it is disabled, has no clocks left, or has read all
--- that its sources have committed.
-abbrev pub KeepsPromise : Option (List ℕ) → Type 0
-KeepsPromise None = ⊤
-KeepsPromise (Some input) =
-    (front : List (List ℕ)) (w : World) → IsPrefix front (lines_of input) → outcome_from front ≡ Ok (Some w)
-    → AllExactlyOnce w.cluster.journals w.cluster.shards × AllRest (settled w).cluster.journals (settled w).cluster.shards
+-- the promise, after each prefix of the lines that gives a world, which then has the events that they say
+abbrev pub KeepsAlong : Option (List ℕ) → Type 0
+KeepsAlong None = ⊤
+KeepsAlong (Some input) =
+    (prefix : List (List ℕ)) (w : World) → IsPrefix prefix (lines_of input) → outcome_from prefix ≡ Ok (Some w) → IsSaid prefix w × KeepsPromise w
 
 -- the answers that a replay has
 abbrev pub IsAnswer : Exit → Type 0

@@ -4,12 +4,13 @@ ghost use Rattle.std.specs.Io.KnownBytes.{Appends, Keeps, IsAtEnd};
 ghost use Rattle.gz_model.specs.Faults.{HasRisen};
 ghost use Rattle.gz_model.specs.Told.{AppendsFront};
 ghost use Rattle.gz_ctl.specs.Commands.{is_command, usage_text, read_fault_text};
-ghost use Rattle.gz_ctl.specs.Answers.{IsVerdict, WritesReport, WritesRefusal, WritesFront, KeepsPromise, IsAnswer, HasReport};
+ghost use Rattle.gz_ctl.specs.Answers.{IsVerdict, WritesReport, WritesRefusal, WritesFront, KeepsAlong, IsAnswer, HasReport};
 
 use gz_base::{Exit, Sink, Source, write_all};
 use gz_label::{Blob, NoMemory};
 use gz_world::{
-    ReplayError, a_settle_ends_every_run, every_run_is_exactly_once, refusal_line, replay,
+    ReplayError, a_settle_ends_every_run, a_world_is_the_run_of_its_events,
+    every_run_is_exactly_once, refusal_line, replay, what_a_report_tells_is_so,
 };
 use std::alloc::Global;
 
@@ -97,10 +98,10 @@ pub fn gazctl<S: Source, K: Sink>(
     ensures usage { result ≡ Exit.Usage → (is_command (map string_bytes words.now) ≡ false) × Appends (K.held output.old) (K.held output.new) usage_text }
     ensures no_command { is_command (map string_bytes words.now) ≡ false → (result ≡ Exit.Usage) ⊎ (result ≡ Exit.WriteFault) }
 
-    // The report of the run of exactly the input's lines, which was read to its end.
+    // The report of the run of exactly the input's lines, which was read to its end, and of whose world the promise is kept.
     ensures done { result ≡ Exit.Done → WritesReport (S.left input.old) (K.held output.old) (K.held output.new) × IsAtEnd (S.left input.new) }
-    // What that run promises, after each of its lines.
-    ensures exactly_once { KeepsPromise (S.left input.old) }
+    // It is kept after each of the lines, too.
+    ensures exactly_once { KeepsAlong (S.left input.old) }
 
     // The first line that is refused, and why.
     ensures bad_input { result ≡ Exit.BadInput → WritesRefusal (S.left input.old) (K.held output.old) (K.held output.new) }
@@ -116,8 +117,10 @@ pub fn gazctl<S: Source, K: Sink>(
     // Lawful lines within the limits, and no fault: the answer is Done, if memory is found.
     ensures complete { is_command (map string_bytes words.now) ≡ true → HasReport (S.left input.old) → (result ≡ Exit.Done) ⊎ ((result ≡ Exit.NoMemory) ⊎ (HasRisen (S.faults input.old) (S.faults input.new) ⊎ HasRisen (K.faults output.old) (K.faults output.new))) }
 {
+    a_world_is_the_run_of_its_events();
     every_run_is_exactly_once();
     a_settle_ends_every_run();
+    what_a_report_tells_is_so();
     if is_replay(words) {
         return match judge(alloc, input) {
             Ok(verdict) => {

@@ -11,9 +11,6 @@ grows : (bs : List ℕ) (n : ℕ) → n ≤ number_from n bs
 grows [] n = omega arith
 grows (b ∷ bs) n = let more = grows bs (n * 10 + (b - 48)) in omega (arith, more)
 
-pub no_digit : (n b : ℕ) (bs : List ℕ) → is_ascii_digit b ≡ false → number_after n (b ∷ bs) ≡ None
-no_digit n b bs other = rw other refl
-
 pub one_digit : (n b : ℕ) (bs : List ℕ) → is_ascii_digit b ≡ true → number_after n (b ∷ bs) ≡ number_after (n * 10 + (b - 48)) bs
 one_digit n b bs digit = rw digit refl
 

@@ -8,7 +8,7 @@ use Rattle.std.specs.Str.{IsAscii}
 use Rattle.gz_label.specs.Names.{name_of}
 use Rattle.gz_label.proofs.Sets.{both_left, both_right}
 use Rattle.gz_label.proofs.Utf8.{is_utf8_of_text}
-use Rattle.gz_spec.specs.Names.{is_id_byte, is_id}
+use Rattle.gz_fields.specs.Names.{is_id_byte, is_id}
 use Rattle.gz_keyspace.specs.Keys.{same_key}
 use Rattle.gz_keyspace.specs.Formats.{id_of, is_in, are_distinct, ids_in, number_of, is_consumer, joined_with, joined_words, words_of}
 

@@ -9,8 +9,10 @@ use Rattle.std.specs.List.{list_all}
 use Rattle.std.specs.Char.{is_ascii_digit}
 use Rattle.std.specs.Str.{all_ascii_digits}
 use Rattle.gz_label.proofs.Sets.{both_left, both_right}
-use Rattle.gz_spec.specs.Names.{is_id_byte, is_id}
-use Rattle.gz_spec.specs.Valid.{is_between, is_lone_member}
+use Rattle.gz_fields.specs.Names.{is_id_byte, is_id}
+use Rattle.gz_fields.specs.Form.{is_between}
+use Rattle.gz_spec.specs.Limits.{max_limit}
+use Rattle.gz_spec.specs.Valid.{is_lone_member}
 use Rattle.gz_keyspace.specs.declared.formats.Joined.{Joined}
 use Rattle.gz_keyspace.specs.Formats.{number_from, number_of, begins_as_number, words_of, is_consumer, joined_with, joined_words, joined_of, kind_word, member_text}
 
@@ -96,7 +98,7 @@ three a b c first second third =
     ∙ ap (λ (ws : List (List ℕ)). a ∷ ws) (slice_split_at (λ x. x == 32) b 32 c (none_of b second) refl
     ∙ ap (λ (ws : List (List ℕ)). b ∷ ws) (slice_split_none (λ x. x == 32) c (none_of c third)))
 
-member_by : (j : Joined) → is_id j.spec.id ≡ true → is_id j.spec.zone ≡ true → nat_le j.spec.limit 1024 ≡ true → joined_with j.spec.id (Some j.consumer) j.spec.zone (Some j.spec.limit) ≡ Some j
+member_by : (j : Joined) → is_id j.spec.id ≡ true → is_id j.spec.zone ≡ true → nat_le j.spec.limit max_limit ≡ true → joined_with j.spec.id (Some j.consumer) j.spec.zone (Some j.spec.limit) ≡ Some j
 member_by j id zone limit = rw (id, zone, limit) refl
 
 at_most : (n m : ℕ) → nat_le n m ≡ true → n ≤ m
@@ -104,12 +106,12 @@ at_most n m is = grind (arith, common_steps)
 
 pub member_reads : (j : Joined) → is_lone_member j.spec ≡ true → joined_of j.spec.id (member_text j) ≡ Some j
 member_reads j is =
-    let id = both_left (is_id j.spec.id) (is_id j.spec.zone && is_between 0 1024 j.spec.limit) is in
-    let rest = both_right (is_id j.spec.id) (is_id j.spec.zone && is_between 0 1024 j.spec.limit) is in
-    let zone = both_left (is_id j.spec.zone) (is_between 0 1024 j.spec.limit) rest in
-    let range = both_right (is_id j.spec.zone) (is_between 0 1024 j.spec.limit) rest in
-    let limit = both_right (nat_le 0 j.spec.limit) (nat_le j.spec.limit 1024) range in
-    let few_items : j.spec.limit ≤ 1024 = at_most j.spec.limit 1024 limit in
+    let id = both_left (is_id j.spec.id) (is_id j.spec.zone && is_between 0 max_limit j.spec.limit) is in
+    let rest = both_right (is_id j.spec.id) (is_id j.spec.zone && is_between 0 max_limit j.spec.limit) is in
+    let zone = both_left (is_id j.spec.zone) (is_between 0 max_limit j.spec.limit) rest in
+    let range = both_right (is_id j.spec.zone) (is_between 0 max_limit j.spec.limit) rest in
+    let limit = both_right (nat_le 0 j.spec.limit) (nat_le j.spec.limit max_limit) range in
+    let few_items : j.spec.limit ≤ max_limit = at_most j.spec.limit max_limit limit in
     let small : j.spec.limit < 2 ^ 64 = omega (arith, few_items) in
     let words : words_of (member_text j) ≡ kind_word j.consumer ∷ j.spec.zone ∷ decimal j.spec.limit ∷ [] =
     three (kind_word j.consumer) j.spec.zone (decimal j.spec.limit) (kind_has_none j.consumer) (id_has_none j.spec.zone zone) (digits (decimal j.spec.limit) (digits_decimal own j.spec.limit small)) in

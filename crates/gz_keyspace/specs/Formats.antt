@@ -3,7 +3,8 @@ use Rattle.std.specs.Prelude.{ℕ, ◌+◌, ◌-◌, ◌*◌, ◌^◌, ◌==◌,
 use Rattle.std.specs.List.{list_all, list_any, slice_split}
 use Rattle.std.specs.Str.{all_ascii_digits, bytes_eq}
 use Rattle.gz_label.specs.Items.{items_of}
-use Rattle.gz_spec.specs.Names.{is_id}
+use Rattle.gz_fields.specs.Names.{is_id}
+use Rattle.gz_spec.specs.Limits.{max_limit}
 use Rattle.gz_keyspace.specs.declared.formats.Joined.{Joined}
 use Rattle.gz_keyspace.specs.Keys.{same_key}
 
@@ -68,7 +69,7 @@ abbrev pub joined_with : List ℕ → Option Bool → List ℕ → Option ℕ �
 joined_with id None zone limit = None
 joined_with id (Some consumer) zone None = None
 joined_with id (Some consumer) zone (Some limit) =
-    if is_id id && is_id zone && nat_le limit 1024
+    if is_id id && is_id zone && nat_le limit max_limit
     then Some (record { consumer = consumer; spec = record { id = id; zone = zone; limit = limit } })
     else None
 

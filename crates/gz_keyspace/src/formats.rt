@@ -1,21 +1,14 @@
 //! What the values of keys say.
 ghost use Rattle.std.specs.Prelude.{◌≡◌, IfOk, IsTrue, Some, map};
-ghost use Rattle.std.specs.List.{list_all};
 ghost use Rattle.gz_label.specs.Items.{parts_of};
-ghost use Rattle.gz_spec.specs.Names.{is_id, is_id_byte};
 ghost use Rattle.gz_spec.specs.Valid.{is_lone_member};
 ghost use Rattle.gz_keyspace.specs.Formats.{number_of, number_after, id_of, is_in, ids_in, ids_of, words_of, is_consumer, joined_with, joined_of, kind_word, member_text};
 
+use gz_fields::is_id;
 use gz_label::{Blob, LabelError, Name, NoMemory};
-use gz_spec::MemberSpec;
+use gz_spec::{MAX_LIMIT, MemberSpec};
 use std::alloc::{AllocError, Global};
 use std::marker::Model;
-
-/// The most bytes of an id.
-const MAX_ID: usize = 32;
-
-/// The most items that a member takes.
-const MAX_LIMIT: u64 = 1024;
 
 /// The ids of a list in their order, which a contract sees as the list of them.
 #[derive(Debug, Drop)]
@@ -208,27 +201,6 @@ fn read_id(alloc: Global, text: &[u8]) -> Result<Option<Name>, NoMemory>
         Err(LabelError::NoMemory) => Err(NoMemory),
         Err(LabelError::BadName { .. } | LabelError::TooMany) => Ok(None),
     }
-}
-
-fn is_id_byte(byte: u8) -> bool
-    ensures { result ≡ is_id_byte byte }
-{
-    byte.is_ascii_alphanumeric() || byte == b'_' || byte == b'-'
-}
-
-fn are_id_bytes(text: &[u8]) -> bool
-    ensures { result ≡ list_all is_id_byte text.now }
-{
-    text.iter().all(|byte| is_id_byte(*byte))
-}
-
-// Whether the text is an id.
-#[tactic(auto, unfolding(gz_spec::specs::Names::is_id))]
-fn is_id(text: &[u8]) -> bool
-    ensures { result ≡ is_id text.now }
-{
-    let holds = are_id_bytes(text);
-    text.len() >= 1 && text.len() <= MAX_ID && holds
 }
 
 // Whether the word says a consumer, or else a broker.

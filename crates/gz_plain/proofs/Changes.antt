@@ -13,7 +13,8 @@ use Rattle.gz_sequencer.specs.Committed.{messages_alone}
 use Rattle.gz_plain.specs.Definitions.{Definition, fresh, same_app, same_names, same_sources, keeps_definition, resumes_at, marks_of, with_definition, continued, redefined, definition_of, GoesOn, AllGoOn}
 use Rattle.gz_plain.specs.Journals.{Journal, text_of}
 use Rattle.gz_plain.specs.Promise.{IfKept}
-use Rattle.gz_plain.specs.Runs.{with_journals, changed, Distinct, ArePresent, AreDefined, continues, MayHappen, changes}
+use Rattle.gz_plain.specs.Runs.{with_journals, changed, ArePresent, AreDefined, continues, MayHappen, changes}
+use Rattle.gz_promise.specs.Names.{Distinct}
 use Rattle.gz_plain.specs.Shards.{Shard, World}
 use Rattle.gz_plain.specs.Sources.{Source}
 use Rattle.gz_plain.proofs.Added.{text_added, present_added}

@@ -14,7 +14,7 @@ use Rattle.gz_sequencer.specs.Committed as sequencer
 use Rattle.gz_plain.specs.Journals.{Journal, text_of, appended, AreWhole}
 use Rattle.gz_plain.specs.Sources.{Source, text_from, end_of, committed}
 use Rattle.gz_plain.proofs.Parts.{Within, within_two}
-use Rattle.gz_plain.proofs.Committed.{within_line}
+use Rattle.gz_plain.proofs.Parts.{within_line}
 
 -- ---- texts of whole lines
 

@@ -9,12 +9,11 @@ use Rattle.serde_json.specs.Data.{Data}
 use Rattle.uuid.specs.Text.{parsed}
 use Rattle.gz_uuid.specs.Identifier.{is_identifier, producer_of, clock_of, flags_of}
 use Rattle.gz_json.specs.Json.{json_of}
-use Rattle.gz_plain.specs.Plain.{part, is_between}
-use Rattle.gz_plain.specs.Plain as plain
-use Rattle.gz_sequencer.specs.Committed.{messages_alone}
+use Rattle.gz_promise.specs.Parts.{part, is_between}
+use Rattle.gz_sequencer.specs.Committed.{messages_alone, released_in}
 use Rattle.gz_plain.specs.Journals.{Journal}
 use Rattle.gz_plain.specs.Sources.{Source, all_committed, parts, committed, text_from}
-use Rattle.gz_plain.proofs.Produced.{Each, each_two, each_behind, messages_behind}
+use Rattle.gz_sequencer.proofs.Produced.{Each, each_two, each_behind, messages_behind}
 
 abbrev pub IsMessage : Message → Type 0
 IsMessage m = is_message m ≡ true
@@ -79,16 +78,16 @@ text_messages : (at : ℕ) (text : List ℕ) → Each IsMessage (messages_alone 
 unfolding messages_of
 text_messages at text = lines_messages at (lines_of text)
 
-committed_messages : (js : List Journal) (s : Source) → Each IsMessage (plain.messages_of (committed js s))
+committed_messages : (js : List Journal) (s : Source) → Each IsMessage (released_in (committed js s))
 committed_messages js s =
     subst (λ (ms : List Message). Each IsMessage ms) (sym (messages_behind [] (messages_of s.from (text_from js s))))
     (each_behind IsMessage [] (messages_alone (messages_of s.from (text_from js s))) tt (text_messages s.from (text_from js s)))
 
-part_if : (r : Release) (rs : List Release) (b : Bool) → IsMessage r.message → Each IsMessage (plain.messages_of rs) → Each IsMessage (plain.messages_of (cond b (r ∷ rs) rs))
+part_if : (r : Release) (rs : List Release) (b : Bool) → IsMessage r.message → Each IsMessage (released_in rs) → Each IsMessage (released_in (cond b (r ∷ rs) rs))
 part_if r rs true is each = (is, each)
 part_if r rs false is each = each
 
-part_messages : (from to : ℕ) (rs : List Release) → Each IsMessage (plain.messages_of rs) → Each IsMessage (part from to rs)
+part_messages : (from to : ℕ) (rs : List Release) → Each IsMessage (released_in rs) → Each IsMessage (part from to rs)
 part_messages from to [] each = tt
 part_messages from to (r ∷ rs) each = part_if r (filter (λ x. is_between from to x) rs) (is_between from to r) each.0 (part_messages from to rs each.1)
 

@@ -1,14 +1,10 @@
 pub mod Parts
-pub mod Committed
-pub mod Written
-pub mod Histories
 pub mod Transactions
-pub mod Produced
-pub mod Batches
 pub mod Places
 pub mod Growth
 pub mod Longer
 pub mod Takes
+pub mod Accounts
 pub mod Pieces
 pub mod Reading
 pub mod Running

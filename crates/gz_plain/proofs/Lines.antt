@@ -10,7 +10,7 @@ use Rattle.gz_frame.proofs.Whole.{messages_joined}
 use Rattle.gz_sequencer.specs.Committed.{messages_alone}
 use Rattle.gz_plain.specs.Shards.{text_of_lines}
 use Rattle.gz_plain.specs.Runs.{IsLine}
-use Rattle.gz_plain.proofs.Produced.{Each}
+use Rattle.gz_sequencer.proofs.Produced.{Each}
 use Rattle.gz_plain.proofs.Growth.{whole_two}
 
 some_none : {A : Type 0} {x : A} → let o : Option A = None in o ≡ Some x → ⊥

@@ -1,13 +1,14 @@
 -- The parts of a list of released messages whose lines end between two offsets.
-use Rattle.std.proofs.Common.{◌≡◌, ℕ, ◌<◌, ◌≤◌, List, [], ◌∷◌, ◌++◌, refl, ap, sym, ◌∙◌, true, false, arith, ◌&&◌, nat_lt, nat_le, append_assoc}
+use Rattle.std.proofs.Common.{◌≡◌, ℕ, ◌<◌, ◌≤◌, List, [], ◌∷◌, ◌++◌, map, refl, ap, sym, ◌∙◌, true, false, arith, ◌&&◌, nat_lt, nat_le, append_assoc}
 use Rattle.std.specs.Prelude.{⊤}
 use Rattle.std.proofs.lemmas.Grind.{common_steps}
 use Rattle.std.proofs.lemmas.List.{append-nil, map-append}
 use Rattle.std.proofs.lemmas.List.Elements.{filter-append}
 use Rattle.gz_frame.specs.Messages.{Message}
 use Rattle.gz_frame.specs.Release.{Release}
-use Rattle.gz_plain.specs.Plain.{messages_of, is_between, part, order_from, last_from}
-use Rattle.gz_plain.specs.ExactlyOnce.{NeverFall}
+use Rattle.gz_sequencer.specs.Committed.{released_in}
+use Rattle.gz_promise.specs.Parts.{is_between, part, read_of, last_from}
+use Rattle.gz_promise.specs.Parts.{NeverFall}
 
 -- each line ends after `from` and at or before `to`
 abbrev pub Within : ℕ → ℕ → List Release → Type 0
@@ -37,7 +38,7 @@ test_after : (from to end : ℕ) → to < end → (nat_lt from end && nat_le end
 test_after from to end l = grind (arith, common_steps)
 
 -- the part between the bounds is the whole list
-pub part_inside : (from to : ℕ) (rs : List Release) → Within from to rs → part from to rs ≡ messages_of rs
+pub part_inside : (from to : ℕ) (rs : List Release) → Within from to rs → part from to rs ≡ released_in rs
 part_inside from to [] w = refl
 part_inside from to (r ∷ rs) w = rw (test_inside from to r.end w.0.0 w.0.1) (ap (λ (ms : List Message). r.message ∷ ms) (part_inside from to rs w.1))
 
@@ -52,12 +53,12 @@ part_after low high from to [] h w = refl
 part_after low high from to (r ∷ rs) h w = rw (test_after from to r.end (omega (arith, w.0.0))) (part_after low high from to rs h w.1)
 
 -- the messages of two lists
-pub messages_two : (rs ss : List Release) → messages_of (rs ++ ss) ≡ messages_of rs ++ messages_of ss
+pub messages_two : (rs ss : List Release) → released_in (rs ++ ss) ≡ released_in rs ++ released_in ss
 messages_two rs ss = map-append (λ r. r.message) rs ss
 
 -- the part of two lists
 pub part_two : (from to : ℕ) (rs ss : List Release) → part from to (rs ++ ss) ≡ part from to rs ++ part from to ss
-part_two from to rs ss = ap (λ (ts : List Release). messages_of ts) (filter-append (λ r. is_between from to r) rs ss) ∙ messages_two _ _
+part_two from to rs ss = ap (λ (ts : List Release). released_in ts) (filter-append (λ r. is_between from to r) rs ss) ∙ messages_two _ _
 
 -- offsets that never fall end at or after their start
 pub last_above : (from : ℕ) (offsets : List ℕ) → NeverFall from offsets → from ≤ last_from from offsets
@@ -65,7 +66,7 @@ last_above from [] n = omega arith
 last_above from (to ∷ offsets) n = omega (arith, n.0, last_above to offsets n.1)
 
 -- releases behind all offsets don't change the order
-pub order_same : (from : ℕ) (offsets : List ℕ) (low high : ℕ) (rs ss : List Release) → NeverFall from offsets → last_from from offsets ≤ low → Within low high ss → order_from from offsets (rs ++ ss) ≡ order_from from offsets rs
+pub order_same : (from : ℕ) (offsets : List ℕ) (low high : ℕ) (rs ss : List Release) → NeverFall from offsets → last_from from offsets ≤ low → Within low high ss → read_of from offsets (rs ++ ss) ≡ read_of from offsets rs
 order_same from [] low high rs ss n l w = refl
 order_same from (to ∷ offsets) low high rs ss n l w =
     let up : to ≤ low = omega (arith, last_above to offsets n.1) in
@@ -73,9 +74,9 @@ order_same from (to ∷ offsets) low high rs ss n l w =
     rw (first, order_same to offsets low high rs ss n.1 l w) refl
 
 -- one more offset adds the part up to it
-pub order_more : (from : ℕ) (offsets : List ℕ) (end : ℕ) (rs : List Release) → order_from from (offsets ++ end ∷ []) rs ≡ order_from from offsets rs ++ part (last_from from offsets) end rs
+pub order_more : (from : ℕ) (offsets : List ℕ) (end : ℕ) (rs : List Release) → read_of from (offsets ++ end ∷ []) rs ≡ read_of from offsets rs ++ part (last_from from offsets) end rs
 order_more from [] end rs = append-nil (part from end rs)
-order_more from (to ∷ offsets) end rs = ap (λ (ms : List Message). part from to rs ++ ms) (order_more to offsets end rs) ∙ sym (append_assoc (part from to rs) (order_from to offsets rs) (part (last_from to offsets) end rs))
+order_more from (to ∷ offsets) end rs = ap (λ (ms : List Message). part from to rs ++ ms) (order_more to offsets end rs) ∙ sym (append_assoc (part from to rs) (read_of to offsets rs) (part (last_from to offsets) end rs))
 
 -- one more offset is the last one
 pub last_more : (from : ℕ) (offsets : List ℕ) (end : ℕ) → last_from from (offsets ++ end ∷ []) ≡ end
@@ -86,3 +87,8 @@ last_more from (to ∷ offsets) end = last_more to offsets end
 pub never_fall_more : (from : ℕ) (offsets : List ℕ) (end : ℕ) → NeverFall from offsets → last_from from offsets ≤ end → NeverFall from (offsets ++ end ∷ [])
 never_fall_more from [] end n l = (l, tt)
 never_fall_more from (to ∷ offsets) end n l = (n.0, never_fall_more to offsets end n.1 l)
+
+-- messages that one line releases end with it
+pub within_line : (from to end : ℕ) (ms : List Message) → from < end → end ≤ to → Within from to (map (λ m. record { message = m; end = end }) ms)
+within_line from to end [] l h = tt
+within_line from to end (m ∷ ms) l h = ((l, h), within_line from to end ms l h)

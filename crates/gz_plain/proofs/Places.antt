@@ -1,23 +1,31 @@
 -- Journals by their places, and the texts that a commit puts behind them.
 use Rattle.std.proofs.Common.{◌≡◌, ℕ, zero, suc, ◌+◌, ◌<◌, ◌≤◌, ◌==◌, List, [], ◌∷◌, ◌++◌, length, map, get_or, set, drop, replicate, refl, ap, sym, ◌∙◌, append_assoc, Bool, true, false, cond, ◌||◌, arith}
 use Rattle.std.proofs.lemmas.Bool.{eqb-true, eqb-false}
-use Rattle.std.proofs.lemmas.List.{append-nil, drop_more, drop_all, length-map, length-replicate}
+use Rattle.std.proofs.lemmas.List.{append-nil, drop_more, drop_all, length-append, length-map, length-replicate}
 use Rattle.std.proofs.lemmas.List.Elements.{filter-append}
 use Rattle.std.proofs.lemmas.List.Concat.{flat_map-append}
 use Rattle.std.proofs.lemmas.Slice.Eq.{bytes_eq-Decides}
 use Rattle.std.specs.Str.{bytes_eq}
-use Rattle.gz_frame.specs.Line.{line_of}
+use Rattle.gz_frame.specs.Line.{data_of, line_of}
 use Rattle.gz_frame.specs.Messages.{Message, continue_txn}
 use Rattle.gz_app.specs.Applications.{Output}
 use Rattle.gz_plain.specs.Journals.{Journal, is_journal, text_of, appended, place_of, text_at, appended_at}
-use Rattle.gz_plain.specs.Order.{Apart}
+use Rattle.gz_promise.specs.Names.{Apart}
 use Rattle.gz_plain.specs.Places.{names_of, places_of, ArePlaced, with_lines, ended, all_appended}
 use Rattle.gz_plain.specs.Plain.{lines_from}
-use Rattle.gz_plain.specs.Runs.{ArePresent, Distinct, all_empty}
+use Rattle.gz_plain.specs.Runs.{ArePresent, all_empty}
+use Rattle.gz_promise.specs.Names.{Distinct}
 use Rattle.gz_plain.specs.Seen.{name_of}
-use Rattle.gz_plain.specs.Shards.{choice, lines_to, closed, text_of_lines, written_to}
+use Rattle.gz_plain.specs.Shards.{lines_to, closed, text_of_lines, written_to}
+use Rattle.gz_promise.specs.Outputs.{choice}
 use Rattle.gz_plain.specs.declared.writer.Writer.{Writer}
-use Rattle.gz_plain.proofs.Committed.{line_some}
+use Rattle.gz_model.specs.Lines.{newline}
+use Rattle.serde_json.specs.Written.{compact_text}
+
+-- a line has at least its newline
+pub line_some : (m : Message) → 0 < length (line_of m)
+unfolding line_of
+line_some m = omega (arith, length-append (compact_text (data_of m)) (newline ∷ []))
 
 -- ---- a place
 

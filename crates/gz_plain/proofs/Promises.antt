@@ -1,16 +1,21 @@
 -- The promise, and that a settle ends, for everything that may happen.
-use Rattle.std.proofs.Common.{◌≡◌, ℕ, List, [], ◌∷◌, ◌++◌, refl}
+use Rattle.std.proofs.Common.{◌≡◌, ℕ, List, [], ◌∷◌, ◌++◌, refl, true, Option, Some, None, inl, inr}
 use Rattle.gz_frame.specs.Messages.{Message}
 use Rattle.gz_frame.proofs.Whole.{no_messages}
 use Rattle.gz_plain.specs.Order.{wirings_of, AreInOrder, AllRest}
-use Rattle.gz_plain.specs.Promise.{AllExactlyOnce}
-use Rattle.gz_plain.specs.Shards.{World, round, settled}
+use Rattle.gz_promise.specs.Promise.{ReadsAll}
+use Rattle.gz_plain.specs.Journals.{Journal}
+use Rattle.gz_plain.specs.Promise.{account_of, AllExactlyOnce, IfKept}
+use Rattle.gz_plain.specs.Reports.{AllTellCaught, AllUpToDate, IsUpToDate, TellsCaught, is_none}
+use Rattle.gz_plain.specs.Shards.{Past, Shard, World, round, settled, untaken}
 use Rattle.gz_plain.specs.Runs.{nothing, Event, lands, settles, changes, after_event, after_events, IsLine, AreClients, MayHappen, MayAllHappen}
-use Rattle.gz_plain.proofs.Produced.{Each}
+use Rattle.gz_sequencer.proofs.Produced.{Each}
 use Rattle.gz_plain.proofs.Changes.{sound_changed}
-use Rattle.gz_plain.proofs.Rounds.{IsSound, sound_appended, sound_settled, all_exactly_once}
-use Rattle.gz_plain.proofs.Settles.{settled_rests, settled_quiet, quiet_round}
+use Rattle.gz_plain.proofs.Rounds.{AllKept, if_kept, IsSound, sound_appended, sound_settled, all_exactly_once}
+use Rattle.gz_plain.proofs.Settles.{AllQuiet, IsQuiet, settled_rests, settled_quiet, quiet_round}
+use Rattle.gz_plain.proofs.Accounts.{none_untaken, reads_all}
 use Rattle.gz_plain.proofs.Starts.{none_of}
+use Rattle.gz_plain.proofs.Steps.{Kept}
 
 -- ---- everything that may happen
 
@@ -60,3 +65,44 @@ settled_stays rank w order = quiet_round (settled w).journals (settled w).shards
 pub all_rest_after : (es : List Event) (rank : List ℕ → ℕ) → MayAllHappen es nothing → AreInOrder rank (wirings_of (after_events es nothing).shards)
     → AllRest (settled (after_events es nothing)).journals (settled (after_events es nothing)).shards
 all_rest_after es rank may order = settled_rests rank (after_events es nothing) (sound_events es nothing may sound_nothing) order
+
+-- ---- what is told
+
+none_told : (ms : List Message) → ms ≡ [] → is_none ms ≡ true
+none_told [] none = refl
+none_told (m ∷ ms) none = cc
+
+told_none : (ms : List Message) → is_none ms ≡ true → ms ≡ []
+told_none [] told = refl
+told_none (m ∷ ms) told = absurd (cc)
+
+tells : (js : List Journal) (s : Shard) → Kept js s → TellsCaught js s
+tells js s k = record {
+  so = λ told. reads_all js s k.shape k.taken (told_none (untaken js s) told);
+  told = λ read. none_told (untaken js s) (none_untaken js s k.shape k.taken read);
+}
+
+all_tell : (js : List Journal) (ss : List Shard) → AllKept js ss → AllTellCaught js ss
+all_tell js [] k = tt
+all_tell js (s ∷ ss) k = (if_kept s.past (Kept js s) (TellsCaught js s) (λ x. tells js s x) k.0, all_tell js ss k.1)
+
+up_to_date : (js : List Journal) (s : Shard) → IsQuiet js s → IsUpToDate js s
+up_to_date js s (inl disabled) = inr (inl disabled)
+up_to_date js s (inr (inl none)) = inl (none_told (untaken js s) none)
+up_to_date js s (inr (inr full)) = inr (inr full)
+
+kept_or : (past : Option Past) (A : Type 0) → A → IfKept past A
+kept_or None A a = a
+kept_or (Some past) A a = tt
+
+all_up_to_date : (js : List Journal) (ss : List Shard) → AllQuiet js ss → AllUpToDate js ss
+all_up_to_date js [] quiet = tt
+all_up_to_date js (s ∷ ss) quiet = (kept_or s.past (IsUpToDate js s) (up_to_date js s quiet.0), all_up_to_date js ss quiet.1)
+
+pub all_tell_after : (es : List Event) → MayAllHappen es nothing → AllTellCaught (after_events es nothing).journals (after_events es nothing).shards
+all_tell_after es may =
+    let w : World = after_events es nothing in
+    all_tell w.journals w.shards (sound_events es nothing may sound_nothing).kept
+
+pub all_up_to_date_after : (rank : List ℕ → ℕ) (w : World) → AreInOrder rank (wirings_of w.shards) → AllUpToDate (settled w).journals (settled w).shards
+all_up_to_date_after rank w order = all_up_to_date (settled w).journals (settled w).shards (settled_quiet rank w order)

@@ -4,7 +4,7 @@ use Rattle.std.proofs.lemmas.List.{length-append}
 use Rattle.gz_frame.specs.Messages.{Message}
 use Rattle.gz_plain.specs.Cluster.{AreSmallSources, passed, reaches, reader_upto, readers_upto, source_named}
 use Rattle.gz_plain.specs.Journals.{Journal}
-use Rattle.gz_plain.specs.Plain.{part}
+use Rattle.gz_promise.specs.Parts.{part}
 use Rattle.gz_plain.specs.Shards.{Mark}
 use Rattle.gz_plain.specs.Sources.{Source, committed}
 use Rattle.gz_plain.specs.declared.cluster.Source as named

@@ -9,8 +9,7 @@ use Rattle.gz_sequencer.specs.Committed.{released_in, committed}
 use Rattle.gz_sequencer.specs.Machine.{Point, at, started, fed, resumed, point_of}
 use Rattle.gz_sequencer.proofs.AnyCuts.{fed_is_committed}
 use Rattle.gz_sequencer.proofs.Resuming.{releases_the_rest, checkpoints_agree, wants_within}
-use Rattle.gz_plain.specs.Plain as plain
-use Rattle.gz_plain.specs.Plain.{part}
+use Rattle.gz_promise.specs.Parts.{part}
 use Rattle.gz_plain.specs.Readers.{IsRead, news, text_behind, whole, reading}
 use Rattle.gz_plain.specs.declared.reader.Next.{Next}
 use Rattle.gz_plain.specs.declared.reader.Reader.{Reader}

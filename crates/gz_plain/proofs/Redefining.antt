@@ -14,7 +14,7 @@ use Rattle.gz_plain.specs.Cluster.{AreSmallSources, definition_of, passed, reach
 use Rattle.gz_plain.specs.Definitions.{least, mark_or, marks_of, resumes_at, with_definition}
 use Rattle.gz_plain.specs.Journals.{Journal, text_of, text_at, place_of}
 use Rattle.gz_plain.specs.Places.{ArePlaced}
-use Rattle.gz_plain.specs.Plain.{part}
+use Rattle.gz_promise.specs.Parts.{part}
 use Rattle.gz_plain.specs.Readers.{AreRead}
 use Rattle.gz_plain.specs.Running.{AllEndBy, AllUpto, AreTaken, IsKept, IsLinked, IsTaken, Upto, journals_of}
 use Rattle.gz_plain.specs.Runs.{ArePresent}

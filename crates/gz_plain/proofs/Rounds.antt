@@ -6,12 +6,13 @@ use Rattle.gz_uuid.specs.Producer.{shard_octets}
 use Rattle.gz_frame.specs.Messages.{Message}
 use Rattle.gz_frame.specs.Release.{of_producer}
 use Rattle.gz_app.specs.Applications.{Output}
-use Rattle.gz_plain.specs.Applications.{put_out}
+use Rattle.gz_promise.specs.Applications.{emitted}
 use Rattle.gz_plain.specs.Plain.{lines_from, ack_at}
 use Rattle.gz_plain.specs.Journals.{Journal, appended, AreWhole}
 use Rattle.gz_plain.specs.Shards.{Past, Shard, Beside, World, untaken, journals_after, committing, commit, commit_if, stepped, has_room, round, rounds, settled, text_of_lines}
-use Rattle.gz_plain.specs.Promise.{ExactlyOnce, IfKept, AllExactlyOnce}
-use Rattle.gz_plain.proofs.Produced.{Each}
+use Rattle.gz_promise.specs.Promise.{Delivers}
+use Rattle.gz_plain.specs.Promise.{account_of, IfKept, AllExactlyOnce}
+use Rattle.gz_sequencer.proofs.Produced.{Each}
 use Rattle.gz_plain.proofs.Growth.{grow_whole, grow_appended}
 use Rattle.gz_plain.specs.Runs.{ArePresent, IsLine}
 use Rattle.gz_plain.proofs.Lines.{lines_whole}
@@ -54,7 +55,7 @@ commit_lawful js new ms s present l = record { lines = l.lines; distinct = l.dis
 
 commit_step : (js : List Journal) (ms : List Message) (s : Shard) → ms ≡ untaken js s → AreWhole js → IsLawful js s → has_room ms s ≡ true → IfKept s.past (Kept js s) → IsStep js s (commit js ms s)
 commit_step js ms s is whole lawful room k =
-    let os : List Output = put_out s.app s.store ms in
+    let os : List Output = emitted s.app s.store ms in
     let lines : List Message = lines_from s.producer s.clock os in
     let ack : Message = ack_at s.producer (s.clock + length os + 1) in
     let w = writes_lines js ms s is lawful room in
@@ -262,4 +263,4 @@ sound_appended name ms w each others s =
 pub all_exactly_once : (js : List Journal) (ss : List Shard) → AllKept js ss → AllExactlyOnce js ss
 all_exactly_once js [] k = tt
 all_exactly_once js (s ∷ ss) k =
-    (if_kept s.past (Kept js s) (ExactlyOnce js s) (λ x. exactly_once_of js s x) k.0, all_exactly_once js ss k.1)
+    (if_kept s.past (Kept js s) (Delivers (account_of js s)) (λ x. exactly_once_of js s x) k.0, all_exactly_once js ss k.1)

@@ -9,7 +9,7 @@ use Rattle.gz_frame.specs.Text.{messages_of}
 use Rattle.gz_sequencer.specs.Committed.{committed, released_in}
 use Rattle.gz_sequencer.specs.Machine.{Point, started, fed, point_of}
 use Rattle.gz_plain.specs.Journals.{Journal, text_of, place_of}
-use Rattle.gz_plain.specs.Plain.{part}
+use Rattle.gz_promise.specs.Parts.{part}
 use Rattle.gz_plain.specs.Sources as sources
 use Rattle.gz_plain.specs.Sources.{Source, end_of, ends_of, all_committed, froms_of, parts}
 use Rattle.gz_plain.specs.Seen.{source_of}

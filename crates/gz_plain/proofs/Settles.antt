@@ -3,15 +3,16 @@ use Rattle.std.proofs.Common.{◌≡◌, ℕ, zero, suc, ◌+◌, ◌<◌, ◌�
 use Rattle.std.specs.Prelude.{⊤, ◌⊎◌}
 use Rattle.gz_frame.specs.Messages.{Message}
 use Rattle.gz_app.specs.Applications.{Output}
-use Rattle.gz_plain.specs.Applications.{put_out}
+use Rattle.gz_promise.specs.Applications.{emitted}
 use Rattle.gz_plain.specs.Plain.{lines_from, ack_at}
 use Rattle.gz_plain.specs.Journals.{Journal, text_of}
 use Rattle.gz_plain.specs.Sources.{Source, froms_of, ends_of, all_committed, parts}
 use Rattle.gz_plain.specs.Shards.{Shard, Beside, World, untaken, journals_after, commit, commit_if, stepped, has_room, round, rounds, settled}
 use Rattle.gz_plain.specs.Order.{Wiring, wiring_of, wirings_of, IsBeside, IsBefore, AreBefore, AllBefore, AllBelow, AreInOrder, Rests, AllRest}
 use Rattle.gz_plain.proofs.Writes.{others_stay}
-use Rattle.gz_plain.proofs.Takes.{parts_none, last_is_more, reads_each}
+use Rattle.gz_plain.proofs.Takes.{parts_none, last_is_more}
 use Rattle.gz_plain.proofs.Steps.{Kept}
+use Rattle.gz_plain.proofs.Accounts.{reads_all}
 use Rattle.gz_plain.proofs.Rounds.{if_kept, AllKept, IsSound, sound_settled}
 use Rattle.gz_plain.proofs.Stays.{wired}
 
@@ -75,7 +76,7 @@ quiet_step js s (inr (inr full)) = rw (full_if js (untaken js s) s full) (both s
 
 stay_room : (js : List Journal) (ms : List Message) (s : Shard) (xs : List Source) (room : Bool) → IsBeside s.outputs xs
     → SourcesStay js (cond room (commit js ms s) (record { journals = js; shard = s })).journals xs
-stay_room js ms s xs true apart = stay_written js s (put_out s.app s.store ms) xs apart
+stay_room js ms s xs true apart = stay_written js s (emitted s.app s.store ms) xs apart
 stay_room js ms s xs false apart = stay_none js xs
 
 stay_if : (js : List Journal) (ms : List Message) (s : Shard) (xs : List Source) → IsBeside s.outputs xs → SourcesStay js (commit_if js ms s).journals xs
@@ -94,9 +95,9 @@ stay_step js s xs (inr apart) = stay_unless js s xs s.is_disabled apart
 
 commit_quiet : (js : List Journal) (ms : List Message) (s : Shard) → IsBeside s.outputs s.sources → IsQuiet (commit js ms s).journals (commit js ms s).shard
 commit_quiet js ms s apart =
-    let new : List Journal = journals_after s (put_out s.app s.store ms) js in
+    let new : List Journal = journals_after s (emitted s.app s.store ms) js in
     let ends : List ℕ = ends_of js s.sources in
-    let stay : SourcesStay js new s.sources = stay_written js s (put_out s.app s.store ms) s.sources apart in
+    let stay : SourcesStay js new s.sources = stay_written js s (emitted s.app s.store ms) s.sources apart in
     inr (inl (
     ap (λ (tos : List ℕ). parts tos (ends_of new s.sources) (all_committed new s.sources)) (last_is_more (froms_of s.sources) s.commits ends)
     ∙ ap (λ (tos : List ℕ). parts ends tos (all_committed new s.sources)) (ends_stay js new s.sources stay)
@@ -233,7 +234,7 @@ quiet_round js (s ∷ ss) quiet = rw (quiet_step js s quiet.0, quiet_round js ss
 
 rests_of : (js : List Journal) (s : Shard) → Kept js s → IsQuiet js s → Rests js s
 rests_of js s k (inl disabled) = inl disabled
-rests_of js s k (inr (inl none)) = inr (inr (reads_each js s.sources s.commits k.shape k.taken none))
+rests_of js s k (inr (inl none)) = inr (inr (reads_all js s k.shape k.taken none))
 rests_of js s k (inr (inr full)) = inr (inl full)
 
 pub all_rest : (js : List Journal) (ss : List Shard) → AllKept js ss → AllQuiet js ss → AllRest js ss

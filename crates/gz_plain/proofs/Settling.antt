@@ -4,7 +4,7 @@ use Rattle.std.proofs.lemmas.List.{map-append}
 use Rattle.gz_plain.specs.Journals.{Journal}
 use Rattle.gz_plain.specs.Places.{names_of}
 use Rattle.gz_plain.specs.Running.{IsKept, AllKept}
-use Rattle.gz_plain.specs.Runs.{Distinct}
+use Rattle.gz_promise.specs.Names.{Distinct}
 use Rattle.gz_plain.specs.Seen.{shard_of, shards_of}
 use Rattle.gz_plain.specs.Shards as shards
 use Rattle.gz_plain.specs.Shards.{Beside, World, stepped, round, rounds, settled}

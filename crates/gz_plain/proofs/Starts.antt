@@ -98,7 +98,7 @@ none_of number (m ∷ ms) clients =
 pub kept_new : (js : List Journal) (number : ℕ) (d : Definition) → IsClean (shard_octets number) js → Kept js (fresh number d)
 kept_new js number d clean = record {
   batches = [];
-  taken = none_taken js d.sources;
+  taken = none_taken 0 js d.sources;
   upto = tt;
   shape = tt;
   store = refl;

@@ -3,7 +3,7 @@ use Rattle.std.proofs.Common.{◌≡◌, ℕ, zero, suc, ◌+◌, List, [], ◌�
 use Rattle.std.proofs.lemmas.List.{map-append}
 use Rattle.gz_frame.specs.Messages.{Message}
 use Rattle.gz_app.specs.Applications.{Output}
-use Rattle.gz_plain.specs.Applications.{put_out}
+use Rattle.gz_promise.specs.Applications.{emitted}
 use Rattle.gz_plain.specs.Definitions.{Definition, definition_of}
 use Rattle.gz_plain.specs.Journals.{Journal, appended}
 use Rattle.gz_plain.specs.Order.{Wiring, wiring_of, wirings_of}
@@ -63,7 +63,7 @@ wirings_said (s ∷ ss) = ap (λ (us : List Wiring). wiring_of s ∷ us) (wiring
 names_room : (js : List Journal) (ms : List Message) (s : Shard) (room : Bool)
     → names_of (cond room (commit js ms s) (record { journals = js; shard = s })).journals ≡ names_of js
 names_room js ms s true =
-    let os : List Output = put_out s.app s.store ms in
+    let os : List Output = emitted s.app s.store ms in
     names_written (length s.outputs) 0 (lines_from s.producer s.clock os) (ack_at s.producer (s.clock + length os + 1)) s.outputs js
 names_room js ms s false = refl
 

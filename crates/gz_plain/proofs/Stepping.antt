@@ -4,7 +4,7 @@ use Rattle.std.proofs.lemmas.Grind.{common_steps}
 use Rattle.std.proofs.lemmas.List.{length-append}
 use Rattle.gz_frame.specs.Messages.{Message}
 use Rattle.gz_app.specs.Applications.{Output}
-use Rattle.gz_plain.specs.Applications.{folded, put_out}
+use Rattle.gz_promise.specs.Applications.{folded, emitted}
 use Rattle.gz_plain.specs.Journals.{Journal, is_journal, place_of, appended}
 use Rattle.gz_plain.specs.Places.{ArePlaced, names_of}
 use Rattle.gz_plain.specs.Plain.{lines_from, ack_at}
@@ -50,7 +50,7 @@ grows_after s os js =
     }
 
 grows_room : (b : Bool) (js : List Journal) (ms : List Message) (s : shards.Shard) → Grows js (cond b (shards.commit js ms s) (record { journals = js; shard = s })).journals
-grows_room true js ms s = grows_after s (put_out s.app s.store ms) js
+grows_room true js ms s = grows_after s (emitted s.app s.store ms) js
 grows_room false js ms s = grows_none js
 
 grows_if : (js : List Journal) (ms : List Message) (s : shards.Shard) → Grows js (commit_if js ms s).journals
@@ -213,11 +213,11 @@ kept_commit js s new ms is k c =
     }
 
 pub stepped_commit : (js new : List Journal) (s after : Shard) (ms : List Message) → ms ≡ all_news js s.readers → IsKept js s → s.is_disabled ≡ false → (ms ≡ [] → ⊥)
-    → nat_lt (s.producer.last + length ms + 1) (2 ^ 64) ≡ true → new ≡ journals_after (shard_of (read_further js s)) (put_out s.app s.store ms) js → IsCommitted (read_further js s) ms after
+    → nat_lt (s.producer.last + length ms + 1) (2 ^ 64) ≡ true → new ≡ journals_after (shard_of (read_further js s)) (emitted s.app s.store ms) js → IsCommitted (read_further js s) ms after
     → IsStepped js s new after
 stepped_commit js new s after ms is k able some room written c =
     let sh : shards.Shard = shard_of s in
-    let grown : new ≡ journals_after sh (put_out s.app s.store ms) js = written ∙ ap (λ (x : shards.Shard). journals_after x (put_out s.app s.store ms) js) (seen_further js s) in
+    let grown : new ≡ journals_after sh (emitted s.app s.store ms) js = written ∙ ap (λ (x : shards.Shard). journals_after x (emitted s.app s.store ms) js) (seen_further js s) in
     let step : stepped js sh ≡ shards.commit js ms sh =
     step_commit js s k able (λ none. some (is ∙ none)) (ap (λ (xs : List Message). nat_lt (s.producer.last + length xs + 1) (2 ^ 64)) (sym is) ∙ room)
     ∙ ap (λ (xs : List Message). shards.commit js xs sh) (sym is) in
@@ -225,7 +225,7 @@ stepped_commit js new s after ms is k able some room written c =
       is = ap (λ (x : shards.Shard). record { journals = new; shard = x }) (seen_commit js s after ms k.readers c)
           ∙ ap (λ (x : List Journal). record { journals = x; shard = committing js ms sh }) grown ∙ sym step;
       kept = subst (λ (x : List Journal). IsKept x after) (sym grown)
-          (kept_grown js (journals_after sh (put_out s.app s.store ms) js) after (grows_after sh (put_out s.app s.store ms) js) (kept_commit js s after ms is k c));
+          (kept_grown js (journals_after sh (emitted s.app s.store ms) js) after (grows_after sh (emitted s.app s.store ms) js) (kept_commit js s after ms is k c));
     }
 
 -- ---- whether there are messages

@@ -1,16 +1,17 @@
 -- What a shard has read of its sources, and what a commit and longer journals make of it.
-use Rattle.std.proofs.Common.{◌≡◌, ℕ, ◌≤◌, List, [], ◌∷◌, ◌++◌, refl, ap, sym, ◌∙◌, subst, append_assoc, arith, false, nat_lt, nat_le, ◌&&◌}
+use Rattle.std.proofs.Common.{◌≡◌, ℕ, suc, ◌≤◌, List, [], ◌∷◌, ◌++◌, length, map, refl, ap, sym, ◌∙◌, subst, append_assoc, arith, false, nat_lt, nat_le, ◌&&◌}
 use Rattle.std.proofs.lemmas.Grind.{common_steps}
 use Rattle.std.specs.Prelude.{⊤}
-use Rattle.std.proofs.lemmas.List.{append-nil, map-append}
+use Rattle.std.proofs.lemmas.List.{append-nil, length-map, map-append}
 use Rattle.gz_frame.specs.Messages.{Message}
 use Rattle.gz_frame.specs.Release.{Release}
-use Rattle.gz_plain.specs.Plain.{messages_of, part, order_from, last_from}
-use Rattle.gz_plain.specs.ExactlyOnce.{NeverFall}
+use Rattle.gz_sequencer.specs.Committed.{released_in}
+use Rattle.gz_promise.specs.Parts.{part, read_of, last_from}
+use Rattle.gz_promise.specs.Parts.{NeverFall}
 use Rattle.gz_plain.specs.Journals.{Journal}
 use Rattle.gz_plain.specs.Sources.{Source, end_of, committed, froms_of, ends_of, all_committed, parts, order_of, last_of}
 use Rattle.gz_plain.specs.Running.{Upto, AllUpto}
-use Rattle.gz_plain.specs.Promise.{first_of, rest_of, firsts, rests, ReadsFronts, ReadsEach}
+use Rattle.gz_promise.specs.Promise.{offset_at}
 use Rattle.gz_plain.proofs.Parts.{Within, within_two, within_wider, part_inside, part_before, part_after, part_two, order_same, order_more, last_more, never_fall_more, last_above, messages_two}
 use Rattle.gz_plain.proofs.Growth.{Later, committed_within}
 use Rattle.gz_plain.proofs.Longer.{Longer, later_any}
@@ -26,7 +27,7 @@ pub record Taken (from : ℕ) (offsets : List ℕ) (rs : List Release) (end : �
   pub behind : Within (last_from from offsets) end rest
   pub falls : NeverFall from offsets
   pub below : last_from from offsets ≤ end
-  pub order : order_from from offsets rs ≡ messages_of seen
+  pub order : read_of from offsets rs ≡ released_in seen
 
 -- nothing was read yet
 pub taken_none : (js : List Journal) (s : Source) → Taken s.from [] (committed js s) (end_of js s)
@@ -57,7 +58,7 @@ taken_later from offsets rs more end high up within t = record {
 }
 
 -- the part behind the last offset is the rest
-pub part_rest : (from : ℕ) (offsets : List ℕ) (rs : List Release) (end : ℕ) (t : Taken from offsets rs end) → part (last_from from offsets) end rs ≡ messages_of t.rest
+pub part_rest : (from : ℕ) (offsets : List ℕ) (rs : List Release) (end : ℕ) (t : Taken from offsets rs end) → part (last_from from offsets) end rs ≡ released_in t.rest
 part_rest from offsets rs end t =
     let last : ℕ = last_from from offsets in
     ap (λ (xs : List Release). part last end xs) t.split
@@ -66,9 +67,9 @@ part_rest from offsets rs end t =
 
 -- what was read and what is left is all that is committed
 pub all_read : (from : ℕ) (offsets : List ℕ) (rs : List Release) (end : ℕ) → Taken from offsets rs end
-    → order_from from offsets rs ++ part (last_from from offsets) end rs ≡ messages_of rs
+    → read_of from offsets rs ++ part (last_from from offsets) end rs ≡ released_in rs
 all_read from offsets rs end t =
-    rw (t.order, part_rest from offsets rs end t) (sym (messages_two t.seen t.rest) ∙ ap (λ (xs : List Release). messages_of xs) (sym t.split))
+    rw (t.order, part_rest from offsets rs end t) (sym (messages_two t.seen t.rest) ∙ ap (λ (xs : List Release). released_in xs) (sym t.split))
 
 -- a commit up to the end
 pub taken_more : (from : ℕ) (offsets : List ℕ) (rs : List Release) (end : ℕ) → Taken from offsets rs end → Taken from (offsets ++ end ∷ []) rs end
@@ -90,30 +91,52 @@ taken_more from offsets rs end t =
 
 -- ---- all sources
 
-abbrev pub AllTaken : List Journal → List Source → List (List ℕ) → Type 0
-AllTaken js [] commits = ⊤
-AllTaken js (s ∷ ss) commits = Taken s.from (firsts commits) (committed js s) (end_of js s) × AllTaken js ss (rests commits)
+-- the offsets of a source in the commits
+abbrev pub column : ℕ → List (List ℕ) → List ℕ
+column k commits = map (λ tos. offset_at k tos) commits
 
-pub none_taken : (js : List Journal) (ss : List Source) → AllTaken js ss []
-none_taken js [] = tt
-none_taken js (s ∷ ss) = (taken_none js s, none_taken js ss)
+-- the same of each source, from this number on
+abbrev pub AllTaken : ℕ → List Journal → List Source → List (List ℕ) → Type 0
+AllTaken k js [] commits = ⊤
+AllTaken k js (s ∷ ss) commits = Taken s.from (column k commits) (committed js s) (end_of js s) × AllTaken (suc k) js ss commits
 
-pub all_later : (js new : List Journal) (ss : List Source) (commits : List (List ℕ)) → Longer js new → AllTaken js ss commits → AllTaken new ss commits
-all_later js new [] commits longer t = tt
-all_later js new (s ∷ ss) commits longer t =
+pub none_taken : (k : ℕ) (js : List Journal) (ss : List Source) → AllTaken k js ss []
+none_taken k js [] = tt
+none_taken k js (s ∷ ss) = (taken_none js s, none_taken (suc k) js ss)
+
+pub all_later : (k : ℕ) (js new : List Journal) (ss : List Source) (commits : List (List ℕ)) → Longer js new → AllTaken k js ss commits → AllTaken k new ss commits
+all_later k js new [] commits longer t = tt
+all_later k js new (s ∷ ss) commits longer t =
     let l : Later js new s = later_any js new s longer in (
-      subst (λ (rs : List Release). Taken s.from (firsts commits) rs (end_of new s)) (sym l.joined)
-          (taken_later s.from (firsts commits) (committed js s) l.more (end_of js s) (end_of new s) l.further l.behind t.0),
-      all_later js new ss (rests commits) longer t.1,
+      subst (λ (rs : List Release). Taken s.from (column k commits) rs (end_of new s)) (sym l.joined)
+          (taken_later s.from (column k commits) (committed js s) l.more (end_of js s) (end_of new s) l.further l.behind t.0),
+      all_later (suc k) js new ss commits longer t.1,
     )
 
-pub all_more : (js : List Journal) (ss : List Source) (commits : List (List ℕ)) → AllTaken js ss commits → AllTaken js ss (commits ++ ends_of js ss ∷ [])
-all_more js [] commits t = tt
-all_more js (s ∷ ss) commits t =
-    let new : List ℕ = ends_of js (s ∷ ss) in (
-      subst (λ (os : List ℕ). Taken s.from os (committed js s) (end_of js s)) (sym (map-append (λ tos. first_of tos) commits (new ∷ []))) (taken_more s.from (firsts commits) (committed js s) (end_of js s) t.0),
-      subst (λ (cs : List (List ℕ)). AllTaken js ss cs) (sym (map-append (λ tos. rest_of tos) commits (new ∷ []))) (all_more js ss (rests commits) t.1),
-    )
+-- the offsets, from this number on, are the ends of these sources
+abbrev pub AreEnds : ℕ → List Journal → List ℕ → List Source → Type 0
+AreEnds k js tos [] = ⊤
+AreEnds k js tos (s ∷ ss) = (offset_at k tos ≡ end_of js s) × AreEnds (suc k) js tos ss
+
+ends_behind : (k to : ℕ) (js : List Journal) (tos : List ℕ) (ss : List Source) → AreEnds k js tos ss → AreEnds (suc k) js (to ∷ tos) ss
+ends_behind k to js tos [] are = tt
+ends_behind k to js tos (s ∷ ss) are = (are.0, ends_behind (suc k) to js tos ss are.1)
+
+are_ends : (js : List Journal) (ss : List Source) → AreEnds 0 js (ends_of js ss) ss
+are_ends js [] = tt
+are_ends js (s ∷ ss) = (refl, ends_behind 0 (end_of js s) js (ends_of js ss) ss (are_ends js ss))
+
+more_from : (k : ℕ) (js : List Journal) (tos : List ℕ) (ss : List Source) (commits : List (List ℕ)) → AreEnds k js tos ss → AllTaken k js ss commits → AllTaken k js ss (commits ++ tos ∷ [])
+more_from k js tos [] commits are t = tt
+more_from k js tos (s ∷ ss) commits are t = (
+  subst (λ (os : List ℕ). Taken s.from os (committed js s) (end_of js s))
+      (ap (λ (to : ℕ). column k commits ++ to ∷ []) (sym are.0) ∙ sym (map-append (λ os. offset_at k os) commits (tos ∷ [])))
+      (taken_more s.from (column k commits) (committed js s) (end_of js s) t.0),
+  more_from (suc k) js tos ss commits are.1 t.1,
+)
+
+pub all_more : (js : List Journal) (ss : List Source) (commits : List (List ℕ)) → AllTaken 0 js ss commits → AllTaken 0 js ss (commits ++ ends_of js ss ∷ [])
+all_more js ss commits t = more_from 0 js (ends_of js ss) ss commits (are_ends js ss) t
 
 -- ---- the read order
 
@@ -162,69 +185,124 @@ orders_more froms (c ∷ commits) tos rss =
     ap (λ (ms : List Message). parts froms c rss ++ ms) (orders_more c commits tos rss)
     ∙ sym (append_assoc (parts froms c rss) (order_of c commits rss) (parts (last_of c commits) tos rss))
 
--- ---- the promise for the sources
-
-pub reads_fronts : (js : List Journal) (ss : List Source) (commits : List (List ℕ)) → AllTaken js ss commits → ReadsFronts js ss commits
-reads_fronts js [] commits t = tt
-reads_fronts js (s ∷ ss) commits t =
-    ((t.0.falls, (part (last_from s.from (firsts commits)) (end_of js s) (committed js s), all_read s.from (firsts commits) (committed js s) (end_of js s) t.0)), reads_fronts js ss (rests commits) t.1)
-
 -- ---- commits have an offset for each source
 
 abbrev pub Shaped : List ℕ → List Source → Type 0
-Shaped [] [] = ⊤
-Shaped [] (s ∷ ss) = ⊥
-Shaped (to ∷ tos) [] = ⊥
-Shaped (to ∷ tos) (s ∷ ss) = Shaped tos ss
+Shaped tos ss = length tos ≡ length ss
 
 abbrev pub AllShaped : List (List ℕ) → List Source → Type 0
 AllShaped [] ss = ⊤
 AllShaped (tos ∷ commits) ss = Shaped tos ss × AllShaped commits ss
 
 pub shaped_ends : (js : List Journal) (ss : List Source) → Shaped (ends_of js ss) ss
-shaped_ends js [] = tt
-shaped_ends js (s ∷ ss) = shaped_ends js ss
+shaped_ends js ss = length-map ss (λ s. end_of js s)
+
+pub shaped_froms : (ss : List Source) → Shaped (froms_of ss) ss
+shaped_froms ss = length-map ss (λ s. s.from)
 
 pub all_shaped_more : (commits : List (List ℕ)) (ss : List Source) (tos : List ℕ) → Shaped tos ss → AllShaped commits ss → AllShaped (commits ++ tos ∷ []) ss
 all_shaped_more [] ss tos t a = (t, tt)
 all_shaped_more (c ∷ commits) ss tos t a = (a.0, all_shaped_more commits ss tos t a.1)
 
-first_shaped : (from : ℕ) (froms : List ℕ) (tos : List ℕ) (s : Source) (ss : List Source) → Shaped tos (s ∷ ss) → tos ≡ first_of tos ∷ rest_of tos
-first_shaped from froms [] s ss a = absurd a
-first_shaped from froms (to ∷ tos) s ss a = refl
+shaped_last : (froms : List ℕ) (commits : List (List ℕ)) (ss : List Source) → Shaped froms ss → AllShaped commits ss → Shaped (last_of froms commits) ss
+shaped_last froms [] ss f a = f
+shaped_last froms (c ∷ commits) ss f a = shaped_last c commits ss a.0 a.1
 
-shaped_rest : (tos : List ℕ) (s : Source) (ss : List Source) → Shaped tos (s ∷ ss) → Shaped (rest_of tos) ss
-shaped_rest [] s ss a = absurd a
-shaped_rest (to ∷ tos) s ss a = a
-
-pub all_shaped_rest : (commits : List (List ℕ)) (s : Source) (ss : List Source) → AllShaped commits (s ∷ ss) → AllShaped (rests commits) ss
-all_shaped_rest [] s ss a = tt
-all_shaped_rest (c ∷ commits) s ss a = (shaped_rest c s ss a.0, all_shaped_rest commits s ss a.1)
-
--- the last offsets, source by source
-pub last_split : (from : ℕ) (froms : List ℕ) (commits : List (List ℕ)) (s : Source) (ss : List Source) → AllShaped commits (s ∷ ss)
-    → last_of (from ∷ froms) commits ≡ last_from from (firsts commits) ∷ last_of froms (rests commits)
-last_split from froms [] s ss a = refl
-last_split from froms (c ∷ commits) s ss a =
-    ap (λ (tos : List ℕ). last_of tos commits) (first_shaped from froms c s ss a.0)
-    ∙ last_split (first_of c) (rest_of c) commits s ss a.1
+-- ---- where nothing is left to take
 
 pub append_none : (xs ys : List Message) → xs ++ ys ≡ [] → (xs ≡ []) × (ys ≡ [])
 append_none [] ys none = (refl, none)
 append_none (x ∷ xs) ys none = cc
 
--- where nothing is left to take, each source has been read whole
-pub reads_each : (js : List Journal) (ss : List Source) (commits : List (List ℕ)) → AllShaped commits ss → AllTaken js ss commits
-    → parts (last_of (froms_of ss) commits) (ends_of js ss) (all_committed js ss) ≡ [] → ReadsEach js ss commits
-reads_each js [] commits a t none = tt
-reads_each js (s ∷ ss) commits a t none =
-    let both = append_none (part (last_from s.from (firsts commits)) (end_of js s) (committed js s)) (parts (last_of (froms_of ss) (rests commits)) (ends_of js ss) (all_committed js ss))
-    (ap (λ (tos : List ℕ). parts tos (ends_of js (s ∷ ss)) (all_committed js (s ∷ ss))) (sym (last_split s.from (froms_of ss) commits s ss a)) ∙ none) in (
-      sym (append-nil (order_from s.from (firsts commits) (committed js s)))
-          ∙ ap (λ (ms : List Message). order_from s.from (firsts commits) (committed js s) ++ ms) (sym both.0)
-          ∙ all_read s.from (firsts commits) (committed js s) (end_of js s) t.0,
-      reads_each js ss (rests commits) (all_shaped_rest commits s ss a) t.1 both.1,
+-- the last offset of a source
+last_column : (k : ℕ) (froms : List ℕ) (commits : List (List ℕ)) → offset_at k (last_of froms commits) ≡ last_from (offset_at k froms) (column k commits)
+last_column k froms [] = refl
+last_column k froms (c ∷ commits) = last_column k c commits
+
+-- of each source, from this number on, what is released between two offsets is nothing
+abbrev pub NoParts : ℕ → List Journal → List ℕ → List Source → Type 0
+NoParts k js froms [] = ⊤
+NoParts k js froms (s ∷ ss) = (part (offset_at k froms) (end_of js s) (committed js s) ≡ []) × NoParts (suc k) js froms ss
+
+parts_behind : (k from : ℕ) (js : List Journal) (froms : List ℕ) (ss : List Source) → NoParts k js froms ss → NoParts (suc k) js (from ∷ froms) ss
+parts_behind k from js froms [] none = tt
+parts_behind k from js froms (s ∷ ss) none = (none.0, parts_behind (suc k) from js froms ss none.1)
+
+no_parts : (js : List Journal) (froms : List ℕ) (ss : List Source) → Shaped froms ss → parts froms (ends_of js ss) (all_committed js ss) ≡ [] → NoParts 0 js froms ss
+no_parts js froms [] shape none = tt
+no_parts js [] (s ∷ ss) shape none = absurd (omega (arith, shape))
+no_parts js (from ∷ froms) (s ∷ ss) shape none =
+    let both = append_none (part from (end_of js s) (committed js s)) (parts froms (ends_of js ss) (all_committed js ss)) none in
+    (both.0, parts_behind 0 from js froms ss (no_parts js froms ss (omega (arith, shape)) both.1))
+
+parts_empty : (js : List Journal) (froms : List ℕ) (ss : List Source) → Shaped froms ss → NoParts 0 js froms ss → parts froms (ends_of js ss) (all_committed js ss) ≡ []
+parts_empty js [] ss shape none = refl
+parts_empty js (from ∷ froms) [] shape none = refl
+parts_empty js (from ∷ froms) (s ∷ ss) shape none =
+    rw (none.0) (parts_empty js froms ss (omega (arith, shape)) (before 0 from js froms ss none.1))
+  where
+    before : (k from : ℕ) (js : List Journal) (froms : List ℕ) (ss : List Source) → NoParts (suc k) js (from ∷ froms) ss → NoParts k js froms ss
+    before k from js froms [] none = tt
+    before k from js froms (s ∷ ss) none = (none.0, before (suc k) from js froms ss none.1)
+
+-- of each source, from this number on, all is read
+abbrev pub ReadsColumns : ℕ → List Journal → List Source → List (List ℕ) → Type 0
+ReadsColumns k js [] commits = ⊤
+ReadsColumns k js (s ∷ ss) commits = (read_of s.from (column k commits) (committed js s) ≡ released_in (committed js s)) × ReadsColumns (suc k) js ss commits
+
+-- the offsets, from this number on, are those from which the sources are read
+abbrev pub AreFroms : ℕ → List ℕ → List Source → Type 0
+AreFroms k froms [] = ⊤
+AreFroms k froms (s ∷ ss) = (offset_at k froms ≡ s.from) × AreFroms (suc k) froms ss
+
+froms_behind : (k from : ℕ) (froms : List ℕ) (ss : List Source) → AreFroms k froms ss → AreFroms (suc k) (from ∷ froms) ss
+froms_behind k from froms [] are = tt
+froms_behind k from froms (s ∷ ss) are = (are.0, froms_behind (suc k) from froms ss are.1)
+
+pub are_froms : (ss : List Source) → AreFroms 0 (froms_of ss) ss
+are_froms [] = tt
+are_froms (s ∷ ss) = (refl, froms_behind 0 s.from (froms_of ss) ss (are_froms ss))
+
+columns_read : (k : ℕ) (js : List Journal) (froms : List ℕ) (ss : List Source) (commits : List (List ℕ)) → AreFroms k froms ss → AllTaken k js ss commits → NoParts k js (last_of froms commits) ss
+    → ReadsColumns k js ss commits
+columns_read k js froms [] commits are t none = tt
+columns_read k js froms (s ∷ ss) commits are t none =
+    let os : List ℕ = column k commits in
+    let last : offset_at k (last_of froms commits) ≡ last_from s.from os = last_column k froms commits ∙ ap (λ (from : ℕ). last_from from os) are.0 in
+    let left : part (last_from s.from os) (end_of js s) (committed js s) ≡ [] = ap (λ (n : ℕ). part n (end_of js s) (committed js s)) (sym last) ∙ none.0 in (
+      sym (append-nil (read_of s.from os (committed js s)))
+          ∙ ap (λ (ms : List Message). read_of s.from os (committed js s) ++ ms) (sym left)
+          ∙ all_read s.from os (committed js s) (end_of js s) t.0,
+      columns_read (suc k) js froms ss commits are.1 t.1 none.1,
     )
+
+-- where nothing is left to take, each source has been read whole
+pub reads_columns : (js : List Journal) (ss : List Source) (commits : List (List ℕ)) → AllShaped commits ss → AllTaken 0 js ss commits
+    → parts (last_of (froms_of ss) commits) (ends_of js ss) (all_committed js ss) ≡ [] → ReadsColumns 0 js ss commits
+reads_columns js ss commits a t none =
+    columns_read 0 js (froms_of ss) ss commits (are_froms ss) t
+    (no_parts js (last_of (froms_of ss) commits) ss (shaped_last (froms_of ss) commits ss (shaped_froms ss) a) none)
+
+no_more : (xs ys : List Message) → xs ++ ys ≡ xs → ys ≡ []
+no_more [] ys same = same
+no_more (x ∷ xs) ys same = no_more xs ys (cc)
+
+columns_left : (k : ℕ) (js : List Journal) (froms : List ℕ) (ss : List Source) (commits : List (List ℕ)) → AreFroms k froms ss → AllTaken k js ss commits → ReadsColumns k js ss commits
+    → NoParts k js (last_of froms commits) ss
+columns_left k js froms [] commits are t read = tt
+columns_left k js froms (s ∷ ss) commits are t read =
+    let os : List ℕ = column k commits in
+    let last : offset_at k (last_of froms commits) ≡ last_from s.from os = last_column k froms commits ∙ ap (λ (from : ℕ). last_from from os) are.0 in
+    let left : part (last_from s.from os) (end_of js s) (committed js s) ≡ [] =
+    no_more (read_of s.from os (committed js s)) (part (last_from s.from os) (end_of js s) (committed js s)) (all_read s.from os (committed js s) (end_of js s) t.0 ∙ sym read.0) in
+    (ap (λ (n : ℕ). part n (end_of js s) (committed js s)) last ∙ left, columns_left (suc k) js froms ss commits are.1 t.1 read.1)
+
+-- and where each source has been read whole, nothing is left to take
+pub nothing_left : (js : List Journal) (ss : List Source) (commits : List (List ℕ)) → AllShaped commits ss → AllTaken 0 js ss commits → ReadsColumns 0 js ss commits
+    → parts (last_of (froms_of ss) commits) (ends_of js ss) (all_committed js ss) ≡ []
+nothing_left js ss commits a t read =
+    parts_empty js (last_of (froms_of ss) commits) ss (shaped_last (froms_of ss) commits ss (shaped_froms ss) a)
+    (columns_left 0 js (froms_of ss) ss commits (are_froms ss) t read)
 
 -- ---- nothing is left between an offset and itself
 

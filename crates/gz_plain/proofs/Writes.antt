@@ -1,5 +1,5 @@
 -- What a commit writes into the journals of its shard's outputs, and what readers accept of it.
-use Rattle.std.proofs.Common.{◌≡◌, ℕ, ◌+◌, ◌==◌, List, [], ◌∷◌, ◌++◌, length, refl, ap, sym, ◌∙◌, append_assoc, Bool, true, false, cond, ◌||◌, arith}
+use Rattle.std.proofs.Common.{◌≡◌, ℕ, suc, ◌+◌, ◌==◌, List, [], ◌∷◌, ◌++◌, length, refl, ap, sym, ◌∙◌, subst, append_assoc, Bool, true, false, cond, ◌||◌, arith}
 use Rattle.std.specs.Prelude.{⊤}
 use Rattle.std.proofs.lemmas.List.{append-nil, length-append, map-append}
 use Rattle.std.proofs.lemmas.List.Elements.{filter-append}
@@ -12,18 +12,20 @@ use Rattle.gz_frame.specs.Text.{Placed, messages_of, is_whole}
 use Rattle.gz_frame.proofs.Whole.{messages_joined}
 use Rattle.gz_app.specs.Applications.{Output}
 use Rattle.gz_plain.specs.Plain.{lines_from, ack_at}
-use Rattle.gz_plain.specs.ExactlyOnce.{outputs_in}
-use Rattle.gz_plain.specs.Kept.{joined}
+use Rattle.gz_promise.specs.Outputs.{outputs_in}
 use Rattle.gz_sequencer.specs.Committed.{messages_alone}
 use Rattle.gz_plain.specs.Journals.{Journal, text_of, is_journal, appended, AreWhole}
-use Rattle.gz_plain.specs.Shards.{choice, lines_to, closed, text_of_lines, written_to}
-use Rattle.gz_plain.specs.Promise.{accepted_of, Accept}
-use Rattle.gz_plain.specs.Order.{Apart}
-use Rattle.gz_plain.specs.Runs.{Distinct, ArePresent, IsLine}
-use Rattle.gz_plain.proofs.Written.{same_bytes}
-use Rattle.gz_plain.proofs.Produced.{released_behind, messages_behind, of_released, Each, each_two, each_filter, AllOf, of_all, of_none}
+use Rattle.gz_plain.specs.Shards.{lines_to, closed, text_of_lines, written_to}
+use Rattle.gz_promise.specs.Outputs.{choice}
+use Rattle.gz_promise.specs.Promise.{AcceptAll}
+use Rattle.gz_sequencer.specs.Transactions as written
+use Rattle.gz_plain.specs.Promise.{all_accepted}
+use Rattle.gz_promise.specs.Names.{Apart}
+use Rattle.gz_plain.specs.Runs.{ArePresent, IsLine}
+use Rattle.gz_promise.specs.Names.{Distinct}
+use Rattle.gz_sequencer.proofs.Produced.{Each, each_two, each_filter, AllOf, of_all, of_none}
 use Rattle.gz_plain.proofs.Growth.{Gain, Grow, grow_none, grow_two, grow_whole, grow_appended, whole_two}
-use Rattle.gz_plain.proofs.Batches.{Batch, batches_to, text_of_batches, accepted, batches_rise, batches_more, clock_after, outputs_in_batches, outputs_to}
+use Rattle.gz_plain.proofs.Transactions.{same_bytes, joined, as_transaction, transactions_to, transactions_more, text_one, text_two, clock_after, accepts_transactions}
 use Rattle.gz_plain.proofs.Lines.{lines_whole, lines_read}
 
 -- ---- an append to one journal
@@ -75,7 +77,7 @@ journal_stays name bytes other (j ∷ js) =
 abbrev pub Holds : List Journal → List ℕ → ℕ → ℕ → List (List ℕ) → List (List Output) → Type 0
 Holds js p count place [] oss = ⊤
 Holds js p count place (name ∷ names) oss =
-    (of_producer p (messages_alone (messages_of 0 (text_of name js))) ≡ text_of_batches p (batches_to p count place 0 oss)) × Holds js p count (place + 1) names oss
+    (of_producer p (messages_alone (messages_of 0 (text_of name js))) ≡ written.text_of (transactions_to p count place 0 oss)) × Holds js p count (place + 1) names oss
 
 -- the texts of these journals stay
 abbrev pub Same : List Journal → List Journal → List (List ℕ) → Type 0
@@ -141,11 +143,6 @@ of_grown p text ms whole lines all =
     ∙ ap (λ (xs : List Message). of_producer p front ++ of_producer p xs) (lines_read (0 + length text) ms lines)
     ∙ ap (λ (xs : List Message). of_producer p front ++ xs) (of_all p ms all)
 
-batches_text_more : (p : List ℕ) (bs : List Batch) (b : Batch) → text_of_batches p (bs ++ b ∷ []) ≡ text_of_batches p bs ++ closed (ack_at p b.clock) b.lines
-batches_text_more p bs b =
-    flat_map-append (λ x. closed (ack_at p x.clock) x.lines) bs (b ∷ [])
-    ∙ ap (λ (ms : List Message). text_of_batches p bs ++ ms) (append-nil (closed (ack_at p b.clock) b.lines))
-
 lines_all_of : (p : List ℕ) (last : ℕ) (os : List Output) → AllOf p (lines_from p last os)
 lines_all_of p last [] = tt
 lines_all_of p last (o ∷ os) = (same_bytes p, lines_all_of p (last + 1) os)
@@ -170,13 +167,14 @@ holds_written (n ∷ names) p count place last oss os js clock a e whole apart p
     closed_each (λ m. bytes_eq m.producer p ≡ true) ack mine (same_bytes p) (each_filter (λ m. choice count m.key == place) (λ m. bytes_eq m.producer p ≡ true) lines (lines_all_of p last os)) in
     let rest : Holds first p count (place + 1) names oss =
     holds_same js first p count (place + 1) names oss (same_apart n bytes js names apart.0) h.1 in
-    let batch : Batch = record { lines = lines_to count place (lines_from p (clock_after 0 oss) os); clock = clock_after 0 oss + length os + 1 } in (
+    let one : List written.Transaction = as_transaction (lines_to count place (lines_from p (clock_after 0 oss) os)) (ack_at p (clock_after 0 oss + length os + 1)) in (
       ap (λ (t : List ℕ). of_producer p (messages_alone (messages_of 0 t))) text
           ∙ of_grown p (text_of n js) (closed ack mine) (whole n) each all
           ∙ ap (λ (ms : List Message). ms ++ closed ack mine) h.0
-          ∙ ap (λ (c : ℕ). text_of_batches p (batches_to p count place 0 oss) ++ closed (ack_at p (c + length os + 1)) (lines_to count place (lines_from p c os))) clock
-          ∙ sym (batches_text_more p (batches_to p count place 0 oss) batch)
-          ∙ ap (λ (bs : List Batch). text_of_batches p bs) (sym (batches_more p count place 0 oss os)),
+          ∙ ap (λ (c : ℕ). written.text_of (transactions_to p count place 0 oss) ++ closed (ack_at p (c + length os + 1)) (lines_to count place (lines_from p c os))) clock
+          ∙ ap (λ (ms : List Message). written.text_of (transactions_to p count place 0 oss) ++ ms) (sym (text_one (lines_to count place (lines_from p (clock_after 0 oss) os)) (ack_at p (clock_after 0 oss + length os + 1))))
+          ∙ sym (text_two (transactions_to p count place 0 oss) one)
+          ∙ ap (λ (ts : List written.Transaction). written.text_of ts) (sym (transactions_more p count place 0 oss os)),
       holds_written names p count (place + 1) last oss os first clock a e
           (grow_whole js first (grow_appended n bytes js (bytes_whole count place lines ack a e)) whole) apart.1 (present_stays n bytes js names present.1) rest,
     )
@@ -299,16 +297,11 @@ holds_foreign js new p count place (n ∷ names) oss whole f h =
 
 -- ---- the promise for the outputs
 
-accepts_one : (p : List ℕ) (count place : ℕ) (text : List ℕ) (oss : List (List Output)) → of_producer p (messages_alone (messages_of 0 text)) ≡ text_of_batches p (batches_to p count place 0 oss)
-    → accepted_of p text ≡ outputs_to count place (joined oss)
-accepts_one p count place text oss is =
-    let bs : List Batch = batches_to p count place 0 oss in
-    ap (λ (ms : List Message). outputs_in (of_producer p ms)) (messages_behind [] (messages_of 0 text))
-    ∙ ap (λ (ms : List Message). outputs_in ms) (of_released p [] (messages_alone (messages_of 0 text)))
-    ∙ ap (λ (ms : List Message). outputs_in (released_behind [] ms)) is
-    ∙ ap (λ (ms : List Message). outputs_in ms) (accepted bs p 0 [] refl tt refl (batches_rise p count place 0 oss))
-    ∙ outputs_in_batches p count place 0 oss
-
-pub accept_all : (js : List Journal) (p : List ℕ) (count place : ℕ) (names : List (List ℕ)) (oss : List (List Output)) → Holds js p count place names oss → Accept js p count place names (joined oss)
+pub accept_all : (js : List Journal) (p : List ℕ) (count place : ℕ) (names : List (List ℕ)) (oss : List (List Output)) → Holds js p count place names oss
+    → AcceptAll count place (joined oss) (all_accepted js p names)
 accept_all js p count place [] oss h = tt
-accept_all js p count place (n ∷ names) oss h = (accepts_one p count place (text_of n js) oss h.0, accept_all js p count (place + 1) names oss h.1)
+accept_all js p count place (n ∷ names) oss h =
+    let next : place + 1 ≡ suc place = omega arith in (
+      accepts_transactions p count place (text_of n js) oss h.0,
+      subst (λ (at : ℕ). AcceptAll count at (joined oss) (all_accepted js p names)) next (accept_all js p count (place + 1) names oss h.1),
+    )

@@ -1,7 +1,4 @@
 pub mod Plain
-pub mod ExactlyOnce
-pub mod Kept
-pub mod Applications
 pub mod Journals
 pub mod Sources
 pub mod Shards

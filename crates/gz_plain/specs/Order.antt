@@ -4,7 +4,9 @@ use Rattle.std.specs.Str.{bytes_eq}
 use Rattle.gz_plain.specs.Journals.{Journal}
 use Rattle.gz_plain.specs.Sources.{Source}
 use Rattle.gz_plain.specs.Shards.{Shard, untaken, has_room}
-use Rattle.gz_plain.specs.Promise.{ReadsAll, IfKept}
+use Rattle.gz_promise.specs.Names.{Apart}
+use Rattle.gz_promise.specs.Promise.{ReadsAll}
+use Rattle.gz_plain.specs.Promise.{account_of, IfKept}
 
 -- how a shard is wired: its id, its sources and its outputs, which steps leave
 pub record Wiring : Type 0 where
@@ -17,11 +19,6 @@ wiring_of s = record { id = s.id; sources = s.sources; outputs = s.outputs }
 
 abbrev pub wirings_of : List Shard → List Wiring
 wirings_of ss = map (λ s. wiring_of s) ss
-
--- the name is none of these
-abbrev pub Apart : List ℕ → List (List ℕ) → Type 0
-Apart name [] = ⊤
-Apart name (n ∷ names) = (bytes_eq name n ≡ false) × (bytes_eq n name ≡ false) × Apart name names
 
 -- the sources are none of these outputs
 abbrev pub IsBeside : List (List ℕ) → List Source → Type 0
@@ -51,11 +48,12 @@ pub record AreInOrder (rank : List ℕ → ℕ) (ss : List Wiring) : Type 0 wher
   pub before : AllBefore rank ss ss
   pub below : AllBelow rank (length ss) ss
 
--- a shard rests: it is disabled, has no clocks left for what it would take, or has read all that is committed
+-- A shard is at rest: it is disabled, has no clocks left for what it would take, or nothing that its sources have
+-- committed is left to read.
 abbrev pub Rests : List Journal → Shard → Type 0
-Rests js s = (s.is_disabled ≡ true) ⊎ ((has_room (untaken js s) s ≡ false) ⊎ ReadsAll js s)
+Rests js s = (s.is_disabled ≡ true) ⊎ ((has_room (untaken js s) s ≡ false) ⊎ ReadsAll (account_of js s))
 
--- every shard that kept its definition rests
+-- every shard that kept its definition is at rest
 abbrev pub AllRest : List Journal → List Shard → Type 0
 AllRest js [] = ⊤
 AllRest js (s ∷ ss) = IfKept s.past (Rests js s) × AllRest js ss

@@ -3,7 +3,7 @@ use Rattle.std.specs.Prelude.{◌≡◌, ◌≤◌, ◌+◌, ℕ, List, [], ◌�
 use Rattle.gz_frame.specs.Messages.{Message}
 use Rattle.gz_frame.specs.Release.{Release}
 use Rattle.gz_sequencer.specs.Committed.{committed}
-use Rattle.gz_plain.specs.Applications.{folded, put_out}
+use Rattle.gz_promise.specs.Applications.{folded, emitted}
 use Rattle.gz_plain.specs.Journals.{Journal}
 use Rattle.gz_plain.specs.Places.{ArePlaced}
 use Rattle.gz_plain.specs.Readers.{AreRead, accepted_all, end_of_reader, reading_all, text_behind, text_for}
@@ -72,7 +72,7 @@ read_up s = record s { readers = accepted_all s.readers }
 
 -- the shard after a commit of messages, which its readers have read
 pub record IsCommitted (s : Shard) (ms : List Message) (new : Shard) : Type 0 where
-  pub producer : new.producer ≡ record s.producer { last = s.producer.last + length (put_out s.app s.store ms) + 1 }
+  pub producer : new.producer ≡ record s.producer { last = s.producer.last + length (emitted s.app s.store ms) + 1 }
   pub readers : new.readers ≡ accepted_all s.readers
   pub writers : new.writers.items ≡ s.writers.items
   pub app : new.app ≡ s.app

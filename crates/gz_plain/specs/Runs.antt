@@ -7,7 +7,7 @@ use Rattle.gz_frame.specs.Line.{line_of}
 use Rattle.gz_frame.specs.Text.{message_of}
 use Rattle.gz_plain.specs.Definitions.{Definition, redefined}
 use Rattle.gz_plain.specs.Journals.{Journal, is_journal, appended}
-use Rattle.gz_plain.specs.Order.{Apart}
+use Rattle.gz_promise.specs.Names.{Distinct}
 use Rattle.gz_plain.specs.Shards.{Shard, World, settled, text_of_lines}
 
 -- ---- what there is at first
@@ -29,11 +29,6 @@ changed names ds w = record {
   journals = with_journals names w.journals;
   shards = redefined (with_journals names w.journals) (1 + length w.shards) ds w.shards;
 }
-
--- each of these is named once
-abbrev pub Distinct : List (List ℕ) → Type 0
-Distinct [] = ⊤
-Distinct (n ∷ names) = Apart n names × Distinct names
 
 -- each of these is a journal
 abbrev pub ArePresent : List (List ℕ) → List Journal → Type 0

@@ -3,10 +3,11 @@ use Rattle.std.specs.Prelude.{ℕ, zero, suc, ◌+◌, ◌%◌, ◌==◌, List, 
 use Rattle.gz_frame.specs.Messages.{Message}
 use Rattle.gz_frame.specs.Line.{line_of}
 use Rattle.gz_app.specs.Applications.{Output}
-use Rattle.gz_plain.specs.Applications.{folded, put_out}
+use Rattle.gz_promise.specs.Applications.{folded, emitted}
 use Rattle.gz_app.specs.States.{State}
 use Rattle.gz_app.specs.declared.app.AppKind.{AppKind}
 use Rattle.gz_plain.specs.Journals.{Journal, appended}
+use Rattle.gz_promise.specs.Outputs.{choice}
 use Rattle.gz_plain.specs.Plain.{lines_from, ack_at}
 use Rattle.gz_plain.specs.Sources.{Source, froms_of, ends_of, all_committed, parts, order_of, last_of}
 
@@ -51,10 +52,6 @@ untaken js s = parts (last_offsets s) (ends_of js s.sources) (all_committed js s
 
 -- ---- what a commit writes
 
--- A key chooses an output by the sum of its bytes.
-abbrev pub choice : ℕ → List ℕ → ℕ
-choice count key = sum key % count
-
 -- the lines for one of so many outputs
 abbrev pub lines_to : ℕ → ℕ → List Message → List Message
 lines_to count place lines = filter (λ m. choice count m.key == place) lines
@@ -94,12 +91,12 @@ pub record Beside : Type 0 where
 abbrev pub committing : List Journal → List Message → Shard → Shard
 committing js ms s = record s {
   commits = s.commits ++ ends_of js s.sources ∷ [];
-  clock = s.clock + length (put_out s.app s.store ms) + 1;
+  clock = s.clock + length (emitted s.app s.store ms) + 1;
   store = folded s.app s.store ms;
 }
 
 abbrev pub commit : List Journal → List Message → Shard → Beside
-commit js ms s = record { journals = journals_after s (put_out s.app s.store ms) js; shard = committing js ms s }
+commit js ms s = record { journals = journals_after s (emitted s.app s.store ms) js; shard = committing js ms s }
 
 -- The clocks of a commit's lines, of which there is at most one a message, and of its acknowledgement are below 2 to
 -- the 64.

@@ -3,7 +3,7 @@ use Rattle.std.specs.Prelude.{ℕ, ◌+◌, List, [], ◌∷◌, ◌++◌, lengt
 use Rattle.gz_frame.specs.Messages.{Message}
 use Rattle.gz_frame.specs.Release.{Release}
 use Rattle.gz_sequencer.specs.Committed as sequencer
-use Rattle.gz_plain.specs.Plain.{part}
+use Rattle.gz_promise.specs.Parts.{part}
 use Rattle.gz_plain.specs.Journals.{Journal, text_of}
 
 -- a source: a journal, and the offset from which it is read

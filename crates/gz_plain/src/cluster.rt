@@ -3,7 +3,8 @@ ghost use Rattle.std.specs.Prelude.{◌≡◌, ◌+◌, ◌<◌, ◌≤◌, ◌^
 ghost use Rattle.gz_plain.specs.Journals.{appended, place_of};
 ghost use Rattle.gz_plain.specs.Places.{names_of};
 ghost use Rattle.gz_plain.specs.Reports.{report_of};
-ghost use Rattle.gz_plain.specs.Runs.{Distinct, changed, nothing, with_journals};
+ghost use Rattle.gz_plain.specs.Runs.{changed, nothing, with_journals};
+ghost use Rattle.gz_promise.specs.Names.{Distinct};
 ghost use Rattle.gz_plain.specs.Shards.{settled};
 ghost use Rattle.gz_plain.specs.Cluster.{AreLinked, AreSmall, definitions_of};
 
@@ -49,7 +50,7 @@ impl Model for Cluster {
     ghost use Rattle.gz_plain.specs.Shards.{World};
     ghost use Rattle.gz_plain.specs.Places.{names_of};
     ghost use Rattle.gz_plain.specs.Running.{AllKept};
-    ghost use Rattle.gz_plain.specs.Runs.{Distinct};
+    ghost use Rattle.gz_promise.specs.Names.{Distinct};
     ghost use Rattle.gz_plain.specs.Seen.{shards_of};
 
     ghost Value = { World };

@@ -3,6 +3,7 @@ ghost use Rattle.std.specs.Prelude.{◌≡◌, ℕ, List, map, true};
 ghost use Rattle.gz_plain.specs.Definitions.{Definition, AllGoOn, definition_of};
 ghost use Rattle.gz_plain.specs.Promise.{AllExactlyOnce};
 ghost use Rattle.gz_plain.specs.Order.{AreInOrder, AllRest, wirings_of};
+ghost use Rattle.gz_plain.specs.Reports.{AllTellCaught, AllUpToDate};
 ghost use Rattle.gz_plain.specs.Shards.{World, round, settled};
 ghost use Rattle.gz_plain.specs.Runs.{Event, MayAllHappen, after_events, changed, continues, nothing};
 
@@ -25,6 +26,14 @@ pub fn a_settle_ends()
         round (settled w).shards (settled w).journals ≡ settled w }
     ensures rests { (es : List Event) (rank : List ℕ → ℕ) → MayAllHappen es nothing → AreInOrder rank (wirings_of (after_events es nothing).shards) →
         AllRest (settled (after_events es nothing)).journals (settled (after_events es nothing)).shards }
+{}
+
+/// What is told of a shard that kept its definition is so: it is told to be caught up exactly where nothing that its
+/// sources have committed is left to read. After a settle it isn't behind: it is told to be caught up, unless it is
+/// disabled or has no clocks left.
+pub fn what_is_told_is_so()
+    ensures caught { (es : List Event) → MayAllHappen es nothing → AllTellCaught (after_events es nothing).journals (after_events es nothing).shards }
+    ensures settled { (rank : List ℕ → ℕ) (w : World) → AreInOrder rank (wirings_of w.shards) → AllUpToDate (settled w).journals (settled w).shards }
 {}
 
 /// A change makes the shards what was said of them, and loses none: each one that was there goes on, with the same id,

@@ -1,4 +1,4 @@
-//! Journals as texts, and shards that read and write them; and what shards promise.
+//! Journals as texts, and shards that read and write them; and that the shards keep the promise.
 #![tactic(auto)]
 
 mod begin;
@@ -20,5 +20,7 @@ mod writer_tests;
 
 pub use cluster::{Cluster, Definition, Source};
 pub use journals::{Journal, Journals};
-pub use laws::{a_change_loses_no_shard, a_settle_ends, every_shard_is_exactly_once};
+pub use laws::{
+    a_change_loses_no_shard, a_settle_ends, every_shard_is_exactly_once, what_is_told_is_so,
+};
 pub use report::{ShardReport, count_committed};

@@ -2,7 +2,7 @@
 ghost use Rattle.std.specs.Prelude.{◌≡◌, ◌&&◌, true, IfOk, OnOk};
 ghost use Rattle.gz_plain.specs.Places.{names_of};
 ghost use Rattle.gz_plain.specs.Running.{AllKept};
-ghost use Rattle.gz_plain.specs.Runs.{Distinct};
+ghost use Rattle.gz_promise.specs.Names.{Distinct};
 ghost use Rattle.gz_plain.specs.Seen.{shards_of};
 ghost use Rattle.gz_plain.specs.Shards.{round, settled};
 

@@ -1,10 +1,10 @@
 //! A shard, and its step.
 ghost use Rattle.std.specs.Prelude.{◌≡◌, ◌+◌, ◌<◌, ◌^◌, ◌++◌, length, true, nat_lt, IfOk, OnOk};
-ghost use Rattle.gz_plain.specs.Applications.{folded, put_out};
+ghost use Rattle.gz_promise.specs.Applications.{folded, emitted};
 ghost use Rattle.gz_plain.specs.Places.{ArePlaced, names_of};
 ghost use Rattle.gz_plain.specs.Readers.{AreRead, HaveRoom, accepted_all, all_news};
 ghost use Rattle.gz_plain.specs.Running.{IsCommitted, IsKept, read_further, read_up};
-ghost use Rattle.gz_plain.specs.Runs.{Distinct};
+ghost use Rattle.gz_promise.specs.Names.{Distinct};
 ghost use Rattle.gz_plain.specs.Seen.{shard_of};
 ghost use Rattle.gz_plain.specs.Shards.{has_room, journals_after, stepped, untaken};
 
@@ -90,7 +90,7 @@ fn consume(
     messages: &[Message],
     store: &mut State,
 ) -> Result<Outputs, NoMemory>
-    ensures outputs { IfOk result (λ outputs. outputs ≡ put_out app store.old messages.now) }
+    ensures outputs { IfOk result (λ outputs. outputs ≡ emitted app store.old messages.now) }
     ensures store { OnOk result (store.new ≡ folded app store.old messages.now) }
 {
     let mut outputs = Outputs::new(alloc);
@@ -157,7 +157,7 @@ impl Shard {
         requires places { ArePlaced journals.old self.writers.items }
         requires clocks { self.producer.last + length messages.now + 1 < 2 ^ 64 }
         requires ends { HaveRoom (accepted_all self.readers) }
-        ensures journals { OnOk result (journals.new ≡ journals_after (shard_of self) (put_out self.app self.store messages.now) journals.old) }
+        ensures journals { OnOk result (journals.new ≡ journals_after (shard_of self) (emitted self.app self.store messages.now) journals.old) }
         ensures shard { IfOk result (λ shard. IsCommitted self messages.now shard) }
     {
         let Shard {

@@ -3,9 +3,10 @@ ghost use Rattle.std.specs.Prelude.{◌≡◌, ◌+◌, ◌<◌, ◌≤◌, ◌^
 ghost use Rattle.gz_frame.specs.Line.{line_of};
 ghost use Rattle.gz_plain.specs.Places.{ArePlaced, all_appended, ended, names_of, places_of, with_lines};
 ghost use Rattle.gz_plain.specs.Plain.{ack_at, lines_from};
-ghost use Rattle.gz_plain.specs.Runs.{Distinct};
+ghost use Rattle.gz_promise.specs.Names.{Distinct};
 ghost use Rattle.gz_plain.specs.Seen.{name_of};
-ghost use Rattle.gz_plain.specs.Shards.{choice, written_to};
+ghost use Rattle.gz_plain.specs.Shards.{written_to};
+ghost use Rattle.gz_promise.specs.Outputs.{choice};
 
 use crate::journals::Journals;
 use gz_app::{Output, Outputs};

@@ -11,11 +11,11 @@ use Rattle.std.specs.Cmp.Lexicographic.{slice_cmp}
 use Rattle.std.specs.Map.{values_of}
 use Rattle.std.specs.BTreeMap.{insert_entry}
 use Rattle.std.specs.Str.{bytes_eq}
-use Rattle.gz_spec.specs.Lists.{is_used}
+use Rattle.gz_fields.specs.Lists.{is_used}
 use Rattle.gz_spec.specs.Specs.{id_of_member}
 use Rattle.gz_spec.specs.Valid.{is_member, are_fresh, are_journals, are_shards, are_members, are_specs}
 use Rattle.gz_spec.specs.Records.{MemberSpec, Specs}
-use Rattle.gz_spec.proofs.Used.{used_parts}
+use Rattle.gz_fields.proofs.Used.{used_parts}
 use Rattle.gz_keyspace.specs.declared.formats.Joined.{Joined}
 use Rattle.gz_keyspace.specs.Keys.{same_key}
 use Rattle.gz_keyspace.specs.Space.{Space, revision_of}

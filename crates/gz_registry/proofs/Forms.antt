@@ -2,7 +2,7 @@
 use Rattle.std.proofs.Common.{◌≡◌, ℕ, ◌≤◌, ◌&&◌, List, length, Bool, true, false, refl, nat_le, arith}
 use Rattle.std.proofs.lemmas.Grind.{common_steps}
 use Rattle.std.specs.List.{list_all}
-use Rattle.gz_spec.specs.Names.{is_id, is_id_byte, is_journal_name, is_segment, segments}
+use Rattle.gz_fields.specs.Names.{is_id, is_id_byte, is_journal_name, is_segment, segments}
 use Rattle.gz_spec.specs.Valid.{is_lone_member}
 use Rattle.gz_spec.specs.Records.{MemberSpec}
 

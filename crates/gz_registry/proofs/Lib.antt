@@ -1,4 +1,3 @@
-pub mod Followed
 pub mod Begun
 pub mod Elsewhere
 pub mod Forms

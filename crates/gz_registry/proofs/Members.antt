@@ -1,6 +1,5 @@
 -- Everyone who ever joined.
-use Rattle.std.proofs.Common.{◌≡◌, ℕ, ◌+◌, List, [], ◌∷◌, ◌++◌, length, suc, cond, not, refl, ap, sym, ◌∙◌, Bool, true, false, Option, Some, None, Err, subst, is_some}
-use Rattle.std.proofs.lemmas.List.{length-append}
+use Rattle.std.proofs.Common.{◌≡◌, ℕ, ◌+◌, List, [], ◌∷◌, ◌++◌, cond, refl, ap, sym, ◌∙◌, Bool, true, false, Option, Some, None, Err, subst, is_some}
 use Rattle.std.specs.Map.{lookup}
 use Rattle.gz_label.specs.declared.keys.KeyWrite.{KeyWrite}
 use Rattle.gz_label.specs.declared.keys.Change.{Change}
@@ -13,7 +12,7 @@ use Rattle.gz_keyspace.specs.Space.{Space, revision_of, with_change, put_of, del
 use Rattle.gz_keyspace.proofs.KeyLemmas.{one_more, same_laws}
 use Rattle.gz_registry.specs.declared.error.RegistryError.TheVariants.{NoMember}
 use Rattle.gz_registry.specs.Keys.{member_key}
-use Rattle.gz_registry.specs.Registered.{Member, Registered, lease_of, lease_answer, ended_answer, expire_answer, after_lease, after_expiry, each_written, was_member, member_in, members_in, seen, mirrored, mirror_of, after_join, OnlyMembers}
+use Rattle.gz_registry.specs.Registered.{Member, Registered, lease_of, lease_answer, ended_answer, expire_answer, after_lease, after_expiry, each_written, was_member, member_in, members_in, seen, after_join, OnlyMembers}
 use Rattle.gz_registry.proofs.Orders.{Each}
 
 -- ---- leases by names
@@ -31,12 +30,6 @@ no_some (Some n) empty = absurd (cc)
 
 pub absent : (name : List ℕ) (entries : List (List ℕ × ℕ)) → was_member name (members_in entries) ≡ false → lookup (same_key name) entries ≡ None
 absent name entries none = no_some (lookup (same_key name) entries) (was_in name entries ∙ none)
-
-pub mirror_none : (name : List ℕ) (keys : Space) (entries : List (List ℕ × ℕ)) → is_some (lookup (same_key name) entries) ≡ false → mirror_of name (seen keys entries) ≡ None
-mirror_none name keys entries none = rw (sym (was_in name entries) ∙ none) refl
-
-pub mirror_some : (name : List ℕ) (keys : Space) (entries : List (List ℕ × ℕ)) → is_some (lookup (same_key name) entries) ≡ true → mirror_of name (seen keys entries) ≡ Some (mirrored keys)
-mirror_some name keys entries some = rw (sym (was_in name entries) ∙ some) refl
 
 members_more : (entries : List (List ℕ × ℕ)) (id : List ℕ) (lease : ℕ) → members_in (entries ++ (id, lease) ∷ []) ≡ members_in entries ++ record { id = id; lease = lease } ∷ []
 members_more [] id lease = refl
@@ -85,11 +78,6 @@ still_none name (x ∷ xs) m none other =
     one_passed (same_key name x.id) x.lease (lease_of name (xs ++ m ∷ [])) here.0 (still_none name xs m here.1 other)
 
 -- ---- keys of members
-
--- the key doesn't begin as a member's
-abbrev pub is_other : List ℕ → Bool
-is_other [] = true
-is_other (b ∷ bs) = not (same_key (b ∷ []) (109 ∷ []))
 
 -- the write is of another key than this
 abbrev pub IsElsewhere : List ℕ → KeyWrite → Type 0
@@ -153,11 +141,3 @@ pub only_after_each : (ws : List KeyWrite) (keys : Space) (members : List Member
 only_after_each [] keys members other only = only
 only_after_each (w ∷ ws) keys members other only =
     only_after_each ws (after_txn (w ∷ []) keys) members (λ id. (other id).1) (only_after_txn (w ∷ []) keys members (λ id. ((other id).0, tt)) only)
-
-members_count : (entries : List (List ℕ × ℕ)) → length (members_in entries) ≡ length entries
-members_count [] = refl
-members_count (e ∷ es) = ap (λ (n : ℕ). suc n) (members_count es)
-
-pub joined_count : (j : Joined) (keys new : Space) (entries more : List (List ℕ × ℕ)) → seen new more ≡ after_join j (seen keys entries) → length more ≡ length entries + 1
-joined_count j keys new entries more is =
-    sym (members_count more) ∙ ap (λ (r : Registered). length r.members) is ∙ length-append (members_in entries) _ ∙ ap (λ (n : ℕ). n + 1) (members_count entries)

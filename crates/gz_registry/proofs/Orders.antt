@@ -1,7 +1,6 @@
 -- Things in the order of their names: how many there are, and what holds of each.
-use Rattle.std.proofs.Common.{◌≡◌, ℕ, ◌+◌, ◌≤◌, List, [], ◌∷◌, ◌++◌, length, suc, refl, ap, Bool, true, arith}
+use Rattle.std.proofs.Common.{◌≡◌, ℕ, ◌+◌, ◌≤◌, List, [], ◌∷◌, ◌++◌, length, suc, refl, ap, arith}
 use Rattle.std.specs.Prelude.{⊤}
-use Rattle.std.specs.List.{list_all}
 use Rattle.std.specs.declared.cmp.Ordering.{Ordering}
 use Rattle.std.specs.declared.cmp.Ordering.TheVariants.{Less, Equal, Greater}
 use Rattle.std.specs.Ordering.{nat_cmp, match_ordering}
@@ -48,10 +47,6 @@ each_in_order P named each = of_values P (put_named named []) (put_each P named 
 pub each_append : {A : Type 0} (P : A → Type 0) (xs ys : List A) → Each P xs → Each P ys → Each P (xs ++ ys)
 each_append P [] ys front back = back
 each_append P (x ∷ xs) ys front back = (front.0, each_append P xs ys front.1 back)
-
-pub all_of_each : {A : Type 0} (test : A → Bool) (xs : List A) → Each (λ x. test x ≡ true) xs → list_all test xs ≡ true
-all_of_each test [] each = refl
-all_of_each test (x ∷ xs) each = rw (each.0, all_of_each test xs each.1) refl
 
 -- ---- how many there are
 

@@ -1,21 +1,10 @@
 -- What a key space answers.
-use Rattle.std.proofs.Common.{◌≡◌, ℕ, ◌+◌, ◌==◌, ◌<◌, List, [], ◌∷◌, length, cond, refl, ap, ◌∙◌, Bool, true, false, Result, Ok, Err, arith}
-use Rattle.std.proofs.lemmas.Bool.Decides.{nat_tests}
+use Rattle.std.proofs.Common.{◌≡◌, ℕ, ◌+◌, List, [], ◌∷◌, length, ap, ◌∙◌, arith}
 use Rattle.std.proofs.lemmas.List.{length-append}
 use Rattle.gz_label.specs.declared.keys.KeyWrite.{KeyWrite}
 use Rattle.gz_label.specs.declared.keys.Change.{Change}
-use Rattle.gz_keyspace.specs.declared.error.KeyError.{KeyError}
-use Rattle.gz_keyspace.specs.declared.error.KeyError.TheVariants.{KeysEnd}
-use Rattle.gz_keyspace.specs.Space.{Space, last_revision, revision_of, next_revision, with_change, after_txn}
+use Rattle.gz_keyspace.specs.Space.{Space, revision_of, with_change, after_txn}
 use Rattle.gz_registry.specs.Registered.{each_written}
-
-room_by : (n : ℕ) (b : Bool) → b ≡ (n == last_revision) → n < last_revision → cond b (let e : Result ℕ KeyError = Err KeysEnd in e) (Ok (n + 1)) ≡ Ok (n + 1)
-room_by n true is below = absurd (grind (arith, nat_tests))
-room_by n false is below = refl
-
--- below the last revision there is a next one
-pub next_is : (changes : List Change) → revision_of changes < last_revision → next_revision changes ≡ Ok (revision_of changes + 1)
-next_is changes below = room_by (length changes) (length changes == last_revision) refl below
 
 pub longer : (ws : List KeyWrite) (changes : List Change) → revision_of (with_change ws changes) ≡ revision_of changes + 1
 longer ws changes = length-append changes _

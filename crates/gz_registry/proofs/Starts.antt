@@ -1,11 +1,11 @@
 -- The start: members that join one after another.
-use Rattle.std.proofs.Common.{◌≡◌, ℕ, ◌+◌, ◌<◌, List, [], ◌∷◌, ◌++◌, length, drop, drop-cons, get_or, add-one, refl, ap, sym, ◌∙◌, subst, false, arith}
+use Rattle.std.proofs.Common.{◌≡◌, ℕ, ◌+◌, ◌<◌, List, [], ◌∷◌, ◌++◌, length, drop, drop-cons, get_or, add-one, refl, ap, sym, ◌∙◌, subst, arith}
 use Rattle.gz_keyspace.specs.declared.formats.Joined.{Joined}
 use Rattle.gz_keyspace.specs.Formats.{member_text}
 use Rattle.gz_keyspace.specs.Space.{revision_of, put_of}
 use Rattle.gz_keyspace.proofs.KeyLemmas.{same_laws}
 use Rattle.gz_registry.specs.Keys.{member_key}
-use Rattle.gz_registry.specs.Registered.{Member, Registered, was_member, after_join, each_joined, OnlyMembers, AreNew, IsApart}
+use Rattle.gz_registry.specs.Registered.{Member, Registered, after_join, each_joined, OnlyMembers, AreNew, IsApart}
 use Rattle.gz_registry.proofs.Members.{still_none, only_after_join}
 use Rattle.gz_registry.proofs.Spaces.{longer}
 
@@ -16,11 +16,6 @@ new_more (j ∷ js) members m new apart =
 
 cut : (joined : List Joined) (i : ℕ) (j : Joined) → i < length joined → j ≡ get_or joined i j → drop i joined ≡ j ∷ drop (i + 1) joined
 cut joined i j within is = rw (drop-cons joined i j within, ← is, add-one i) refl
-
--- what is known of the next one that joins
-pub next_joins : (joined : List Joined) (i : ℕ) (j : Joined) (members : List Member) → i < length joined → j ≡ get_or joined i j
-    → AreNew (drop i joined) members → was_member j.spec.id members ≡ false
-next_joins joined i j members within is new = (subst (λ (js : List Joined). AreNew js members) (cut joined i j within is) new).0
 
 join_revision : (j : Joined) (r new : Registered) → new ≡ after_join j r → revision_of new.keys.changes ≡ revision_of r.keys.changes + 1
 join_revision j r new is = ap (λ (s : Registered). revision_of s.keys.changes) is ∙ longer (put_of (member_key j.spec.id) (member_text j) ∷ []) r.keys.changes

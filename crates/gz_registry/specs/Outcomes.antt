@@ -14,15 +14,3 @@ Fails NoMemory answer = ⊤
 abbrev pub Gives : {Y : Type 0} → Result Y RegistryError → Result Y RegistryError → Type 0
 Gives (Ok x) answer = answer ≡ Ok x
 Gives (Err e) answer = Fails e answer
-
--- where this error is a refusal and no want of memory, this holds
-abbrev pub Refused : RegistryError → Type 0 → Type 0
-Refused MembersFull P = P
-Refused NoMember P = P
-Refused KeysEnd P = P
-Refused NoMemory P = ⊤
-
--- where the call was refused, and memory hadn't run out, this holds
-abbrev pub OnRefusal : {Y : Type 0} → Result Y RegistryError → Type 0 → Type 0
-OnRefusal (Ok x) P = ⊤
-OnRefusal (Err e) P = Refused e P

@@ -1,13 +1,13 @@
 -- A cluster's key space with everyone who ever joined, and what its calls do.
-use Rattle.std.specs.Prelude.{◌≡◌, ℕ, ◌+◌, ◌++◌, List, [], ◌∷◌, length, map, take, ⊤, Bool, false, Option, Some, None, is_some, Result, Ok, Err, if◌then◌else◌, nat_le}
+use Rattle.std.specs.Prelude.{◌≡◌, ℕ, ◌++◌, List, [], ◌∷◌, length, map, ⊤, Bool, false, Option, Some, None, is_some, Result, Ok, Err, if◌then◌else◌, nat_le}
 use Rattle.gz_label.specs.declared.keys.Change.{Change}
 use Rattle.gz_label.specs.declared.keys.KeyWrite.{KeyWrite}
+use Rattle.gz_spec.specs.Limits.{max_members}
 use Rattle.gz_spec.specs.Records.{Specs}
 use Rattle.gz_keyspace.specs.declared.error.KeyError.{KeyError}
 use Rattle.gz_keyspace.specs.declared.formats.Joined.{Joined}
 use Rattle.gz_keyspace.specs.Formats.{member_text}
 use Rattle.gz_keyspace.specs.Keys.{same_key, held_at, keys_after}
-use Rattle.gz_keyspace.specs.Mirrors.{Mirrored}
 use Rattle.gz_keyspace.specs.Space.{Space, revision_of, next_revision, made_revision, after_txn, after_grant, key_of_lease, after_expire}
 use Rattle.gz_registry.specs.declared.error.RegistryError.{RegistryError}
 use Rattle.gz_registry.specs.declared.error.RegistryError.TheVariants.{MembersFull, NoMember, KeysEnd}
@@ -45,9 +45,9 @@ told (Err e) = Err KeysEnd
 abbrev pub put_answer : Specs → Registered → Result ℕ RegistryError
 put_answer part r = told (made_revision (writes_of part) r.keys.changes)
 
--- the answer to one who joins: the lease. At most 64 ever join.
+-- the answer to one who joins: the lease. As many as a cluster may have ever join.
 abbrev pub join_answer : Registered → Result ℕ RegistryError
-join_answer r = if nat_le 64 (length r.members) then Err MembersFull else told (next_revision r.keys.changes)
+join_answer r = if nat_le max_members (length r.members) then Err MembersFull else told (next_revision r.keys.changes)
 
 -- the answer where this key of a live lease is to be deleted
 abbrev pub ended_answer : Option (List ℕ) → List Change → Result ℕ RegistryError
@@ -99,20 +99,6 @@ each_joined (j ∷ js) r = each_joined js (after_join j r)
 abbrev pub registry_start : Specs → Registered
 registry_start specs = each_joined (members_of specs) (record { keys = each_written (writes_of specs) (record { changes = []; leases = [] }); members = [] })
 
--- ---- mirrors
-
--- the key map at the key space's revision
-abbrev pub mirrored : Space → Mirrored
-mirrored keys = record { revision = revision_of keys.changes; keys = keys_after keys.changes }
-
--- the key map at this revision
-abbrev pub shown : ℕ → List Change → Mirrored
-shown revision changes = record { revision = revision; keys = keys_after (take revision changes) }
-
--- the mirror of one of this name, which is the key map at the revision
-abbrev pub mirror_of : List ℕ → Registered → Option Mirrored
-mirror_of name r = if was_member name r.members then Some (mirrored r.keys) else None
-
 -- ---- what holds at each time
 
 -- a member's key is there only where one of its name has joined
@@ -139,13 +125,3 @@ IsApart name (j ∷ js) = (same_key name j.spec.id ≡ false) × IsApart name js
 abbrev pub AreNew : List Joined → List Member → Type 0
 AreNew [] members = ⊤
 AreNew (j ∷ js) members = (was_member j.spec.id members ≡ false) × IsApart j.spec.id js × AreNew js members
-
--- each of these mirrors shows this
-abbrev pub AreAll : Mirrored → List Mirrored → Type 0
-AreAll m [] = ⊤
-AreAll m (x ∷ xs) = (x ≡ m) × AreAll m xs
-
--- each of these mirrors is one revision before this
-abbrev pub AreBefore : ℕ → List Mirrored → Type 0
-AreBefore revision [] = ⊤
-AreBefore revision (m ∷ ms) = (revision ≡ m.revision + 1) × AreBefore revision ms

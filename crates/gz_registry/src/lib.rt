@@ -1,8 +1,13 @@
-//! What a cluster puts into its key space, everyone who ever joined it, and the mirrors of its members.
+//! What a cluster puts into its key space, and everyone who ever joined it. What a member knows of the key space is
+//! the member's own, and lags.
+//!
+//! ```text
+//! let mut registry = Registry::start(alloc, &specs)?;
+//! let lease = registry.join(&joined)?;
+//! ```
 #![tactic(auto)]
 
 mod error;
-mod mirrors;
 mod registry;
 mod space;
 mod start;

@@ -1,56 +1,40 @@
 //! A cluster's key space with its members.
-ghost use Rattle.std.specs.Prelude.{◌≡◌, ◌<◌, ◌^◌, false, IfOk, OnOk, IsTrue, option_map};
+ghost use Rattle.std.specs.Prelude.{◌≡◌, ◌<◌, ◌^◌, false, IfOk, OnOk, OnErr, IsTrue, option_map};
 ghost use Rattle.gz_keyspace.specs.Keys.{held_at, keys_after};
 ghost use Rattle.gz_keyspace.specs.Space.{revision_of};
-ghost use Rattle.gz_registry.specs.Registered.{was_member, put_answer, after_put, join_answer, after_join, expire_answer, after_expiry, registry_start, mirror_of};
-ghost use Rattle.gz_registry.specs.Outcomes.{Gives, OnRefusal};
+ghost use Rattle.gz_registry.specs.Registered.{was_member, put_answer, after_put, join_answer, after_join, expire_answer, after_expiry, registry_start};
+ghost use Rattle.gz_registry.specs.Outcomes.{Gives};
 
 use crate::RegistryError;
-use crate::mirrors::{add_mirror, copies, follow};
 use crate::space::{admit, end_member, write_all};
 use crate::start::{start_keys, start_members};
 use crate::writes::writes_of;
-use gz_keyspace::{Joined, KeySpace, Mirror};
+use gz_keyspace::{Joined, KeySpace};
 use gz_label::{Blob, Name, NoMemory};
-use gz_spec::Specs;
+use gz_spec::{MAX_MEMBERS, Specs};
 use indexmap::IndexMap;
 use std::alloc::Global;
 use std::marker::Model;
 
-/// The most members that ever join.
-const MAX_MEMBERS: usize = 64;
-
-/// A cluster's key space, everyone who ever joined the cluster, and the mirror of each of these. A contract sees the
-/// key space, and the members with their leases in the order in which they joined. Each mirror is the key map at
-/// the key space's revision.
+/// A cluster's key space, and everyone who ever joined the cluster. A contract sees the key space, and the members
+/// with their leases in the order in which they joined.
 #[derive(Drop)]
 pub struct Registry {
     keys: KeySpace,
     members: IndexMap<Name, u64>,
-    mirrors: Vec<Mirror>,
 }
 
 impl Model for Registry {
-    ghost use Rattle.std.specs.Prelude.{◌≡◌, map, length};
-    ghost use Rattle.gz_registry.specs.Registered.{Registered, OnlyMembers, mirrored, members_in, AreAll};
+    ghost use Rattle.gz_registry.specs.Registered.{Registered, OnlyMembers, members_in};
 
     ghost Value = { Registered };
 
     ghost view = { λ a. record { keys = a.keys; members = members_in a.members.entries } };
 
-    ghost invariant = { λ a. OnlyMembers (record { keys = a.keys; members = members_in a.members.entries }) × (length a.mirrors.items ≡ length a.members.entries) × AreAll (mirrored a.keys) a.mirrors.items };
+    ghost invariant = { λ a. OnlyMembers (record { keys = a.keys; members = members_in a.members.entries }) };
 }
 
 impl Registry {
-    // No keys and no members. It takes no memory.
-    fn new(alloc: Global) -> Registry {
-        Registry {
-            keys: KeySpace::new(alloc),
-            members: IndexMap::new(alloc),
-            mirrors: Vec::new(alloc),
-        }
-    }
-
     /// What a cluster of these specifications starts with: the writes of journals in the order of their names and of
     /// shards in the order of their ids, each in a transaction of its own, and then a grant for each broker and for
     /// each consumer, in the order of their ids.
@@ -59,12 +43,7 @@ impl Registry {
     {
         let mut keys = start_keys(alloc, specs)?;
         let members = start_members(alloc, &mut keys, specs)?;
-        let mirrors = copies(alloc, &keys, members.len())?;
-        Ok(Registry {
-            keys,
-            members,
-            mirrors,
-        })
+        Ok(Registry { keys, members })
     }
 
     /// The revision of the key space, below 2^40. It takes no memory.
@@ -90,80 +69,45 @@ impl Registry {
         self.members.contains_key(name)
     }
 
-    /// The mirror of the member of this name, which is the key map at the revision; none exactly where no member of
-    /// the name ever joined. It takes no memory.
-    pub fn mirror(&self, name: &Name) -> Option<&Mirror>
-        ensures { option_map (λ mirror. mirror.now) result ≡ mirror_of name.now self.now }
-    {
-        match self.members.get_index_of(name) {
-            None => None,
-            Some(place) => self.mirrors.get(place),
-        }
-    }
-
     /// Puts a part of specifications in one transaction: its journals in the order of their names, and then its
     /// shards in the order of their ids. The answer is the new revision, or the old one where the part names
-    /// neither. KeysEnd where it names some and the revision is 2^40 - 1. After a refusal nothing has changed; where
-    /// memory runs out nothing is known of what is left.
+    /// neither. KeysEnd where it names some and the revision is 2^40 - 1. After an error nothing has changed.
     pub fn put(&mut self, part: &Specs) -> Result<u64, RegistryError>
         ensures answer { Gives result (put_answer part.now self.old) }
         ensures ok { OnOk result (self.new ≡ after_put part.now self.old) }
-        ensures refused { OnRefusal result (self.new ≡ self.old) }
+        ensures err { OnErr result (self.new ≡ self.old) }
     {
-        let alloc = *self.mirrors.allocator();
+        let alloc = *self.members.allocator();
         let writes = writes_of(alloc, part)?;
-        let before = self.keys.revision();
         let revision = write_all(&mut self.keys, writes.as_slice())?;
-        match follow(&self.keys, before, &mut self.mirrors) {
-            Ok(()) => Ok(revision),
-            Err(_) => {
-                *self = Registry::new(alloc);
-                Err(RegistryError::NoMemory)
-            }
-        }
+        Ok(revision)
     }
 
     /// A member joins, whose name no member had: its key is put, and kept by a lease, which is the answer.
-    /// MembersFull where 64 have joined; else KeysEnd where the revision is 2^40 - 1. After a refusal nothing has
-    /// changed; where memory runs out nothing is known of what is left.
+    /// MembersFull where 64 have joined; else KeysEnd where the revision is 2^40 - 1. After an error nothing has
+    /// changed.
     pub fn join(&mut self, joined: &Joined) -> Result<u64, RegistryError>
         requires new { was_member joined.now.spec.id self.old.members ≡ false }
         ensures answer { Gives result (join_answer self.old) }
         ensures ok { OnOk result (self.new ≡ after_join joined.now self.old) }
-        ensures refused { OnRefusal result (self.new ≡ self.old) }
+        ensures err { OnErr result (self.new ≡ self.old) }
     {
         if self.members.len() >= MAX_MEMBERS {
             return Err(RegistryError::MembersFull);
         }
-        let alloc = *self.mirrors.allocator();
-        let before = self.keys.revision();
         let lease = admit(&mut self.keys, &mut self.members, joined)?;
-        match add_mirror(&self.keys, before, &mut self.mirrors) {
-            Ok(()) => Ok(lease),
-            Err(_) => {
-                *self = Registry::new(alloc);
-                Err(RegistryError::NoMemory)
-            }
-        }
+        Ok(lease)
     }
 
     /// Ends the lease of the member of this name, and deletes its key. The answer is the new revision. NoMember where
     /// no member of the name ever joined, or its lease isn't live; else KeysEnd where the revision is 2^40 - 1. After
-    /// a refusal nothing has changed; where memory runs out nothing is known of what is left.
+    /// an error nothing has changed.
     pub fn expire(&mut self, name: &Name) -> Result<u64, RegistryError>
         ensures answer { Gives result (expire_answer name.now self.old) }
         ensures ok { OnOk result (self.new ≡ after_expiry name.now self.old) }
-        ensures refused { OnRefusal result (self.new ≡ self.old) }
+        ensures err { OnErr result (self.new ≡ self.old) }
     {
-        let alloc = *self.mirrors.allocator();
-        let before = self.keys.revision();
         let revision = end_member(&mut self.keys, &self.members, name)?;
-        match follow(&self.keys, before, &mut self.mirrors) {
-            Ok(()) => Ok(revision),
-            Err(_) => {
-                *self = Registry::new(alloc);
-                Err(RegistryError::NoMemory)
-            }
-        }
+        Ok(revision)
     }
 }

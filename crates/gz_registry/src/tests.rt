@@ -1,7 +1,7 @@
-// Each answer of the calls, once, and what mirrors show.
+// Each answer of the calls, once, and what the key space has then.
 
 use crate::{Registry, RegistryError};
-use gz_keyspace::{Joined, Mirror, read_joined};
+use gz_keyspace::{Joined, read_joined};
 use gz_label::Name;
 use gz_spec::{Specs, read_part};
 use std::alloc::Global;
@@ -35,25 +35,12 @@ fn broker(alloc: Global, id: &[u8]) -> Result<Joined, Fail> {
     Ok(joined)
 }
 
-// Whether the mirror shows what the registry's key space has at the key.
-fn is_same(registry: &Registry, mirror: &Mirror, key: &Name) -> bool {
-    match (registry.get(key), mirror.get(key)) {
-        (None, None) => true,
-        (Some((_, here)), Some((_, there))) => here == there,
-        _ => false,
+// The revision of the change that put the key, and 0 where it is absent.
+fn revision_of(alloc: Global, registry: &Registry, key: &str) -> Result<u64, Fail> {
+    match registry.get(&Name::of(alloc, key)?) {
+        None => Ok(0),
+        Some((_, revision)) => Ok(revision),
     }
-}
-
-// Whether the member's mirror shows what the registry's key space has.
-fn shows(alloc: Global, registry: &Registry, id: &Name) -> Result<bool, Fail> {
-    let Some(mirror) = registry.mirror(id) else {
-        return Ok(false);
-    };
-    let mut same = mirror.revision() == registry.revision();
-    for key in ["journal/b", "journal/c", "member/m1", "member/m2"] {
-        same = same && is_same(registry, mirror, &Name::of(alloc, key)?);
-    }
-    Ok(same)
 }
 
 #[test]
@@ -62,13 +49,8 @@ fn starts(rt: HostRuntime) -> Result<(), Fail> {
     let registry = begun(alloc)?;
     assert_eq!(rt; registry.revision(), 3);
     for (key, want) in [("journal/b", 1), ("member/m2", 2), ("member/m1", 3)] {
-        let found = match registry.get(&Name::of(alloc, key)?) {
-            None => 0,
-            Some((_, revision)) => revision,
-        };
-        assert_eq!(rt; found, want);
+        assert_eq!(rt; revision_of(alloc, &registry, key)?, want);
     }
-    assert!(rt; shows(alloc, &registry, &Name::of(alloc, "m1")?)?);
     Ok(())
 }
 
@@ -78,7 +60,8 @@ fn puts(rt: HostRuntime) -> Result<(), Fail> {
     let mut registry = begun(alloc)?;
     let part = specs_of(alloc, MORE)?;
     assert_eq!(rt; registry.put(&part)?, 4);
-    assert!(rt; shows(alloc, &registry, &Name::of(alloc, "m2")?)?);
+    assert_eq!(rt; revision_of(alloc, &registry, "journal/b")?, 4);
+    assert_eq!(rt; revision_of(alloc, &registry, "journal/c")?, 4);
     Ok(())
 }
 
@@ -89,7 +72,7 @@ fn expires(rt: HostRuntime) -> Result<(), Fail> {
     let id = Name::of(alloc, "m1")?;
     assert_eq!(rt; registry.expire(&id)?, 4);
     assert!(rt; registry.was_member(&id));
-    assert!(rt; shows(alloc, &registry, &id)?);
+    assert_eq!(rt; revision_of(alloc, &registry, "member/m1")?, 0);
     let again = registry.expire(&id);
     assert!(rt; matches!(&again, Err(RegistryError::NoMember)));
     Ok(())
@@ -111,6 +94,6 @@ fn joins(rt: HostRuntime) -> Result<(), Fail> {
         }
     }
     assert_eq!(rt; registry.revision(), 65);
-    assert!(rt; shows(alloc, &registry, &Name::of(alloc, "n00")?)?);
+    assert_eq!(rt; revision_of(alloc, &registry, "member/n00")?, 4);
     Ok(())
 }

@@ -6,7 +6,8 @@ ghost use Rattle.gz_registry.specs.Registered.{AreNew};
 
 use gz_keyspace::Joined;
 use gz_label::{Blob, KeyWrite, Name, NoMemory, Writes};
-use gz_spec::{JournalSpec, MemberSpec, ShardSpec, Specs, print_journal, print_shard};
+use gz_print::{print_journal, print_shard};
+use gz_spec::{JournalSpec, MemberSpec, ShardSpec, Specs};
 use std::alloc::{AllocError, Global};
 use std::collections::BTreeMap;
 

@@ -9,20 +9,26 @@ use Rattle.serde_json.specs.Data.{Data, Items, no_items, item}
 use Rattle.serde_json.specs.Find.{get, as_str, as_array}
 use Rattle.gz_json.specs.Json.{json_of}
 use Rattle.gz_scenario.proofs.Texts.{utf8_data, utf8_items, json_is_utf8, get_good, text_good, list_good}
-use Rattle.gz_spec.specs.Names.{is_id, is_journal_name}
-use Rattle.gz_spec.specs.Paths.{below, at_place}
-use Rattle.gz_spec.specs.Form.{found, has_only, name_at, number_from, number_at, number_or, items_at}
+use Rattle.gz_fields.specs.Names.{is_id, is_journal_name}
+use Rattle.gz_fields.specs.Paths.{below, at_place}
+use Rattle.gz_fields.specs.Form.{found, has_only, name_at, number_from, number_at, number_or, items_at, is_between}
 use Rattle.gz_spec.specs.Members.{member_names, member_with, member_at}
-use Rattle.gz_spec.specs.Specs.{journals_in, shards_in, part_of, whole, specs_of}
-use Rattle.gz_spec.specs.Valid.{is_between, are_specs}
+use Rattle.gz_spec.specs.Specs.{journals_in, shards_in, part_of}
+use Rattle.gz_links.specs.Whole.{whole, specs_of}
+use Rattle.gz_spec.specs.Valid.{are_specs}
+use Rattle.gz_spec.specs.Limits.{max_limit}
 use Rattle.gz_spec.specs.Records.{MemberSpec, Specs}
-use Rattle.gz_spec.specs.declared.error.SpecError.{SpecError}
-use Rattle.gz_spec.specs.declared.error.SpecError.TheVariants.{BadNumber}
-use Rattle.gz_spec.proofs.Readable.{step, same_ok, chosen, name_good, number_good, number_or_good}
+use Rattle.gz_fields.specs.declared.error.FieldError.{FieldError}
+use Rattle.gz_fields.specs.declared.error.FieldError.TheVariants.{BadNumber}
+use Rattle.gz_fields.proofs.Readable.{step, same_ok, chosen, name_good, number_good, number_or_good}
 use Rattle.gz_spec.proofs.Sound.{limit_good, journals_good, shards_good, part_is_valid}
-use Rattle.gz_spec.proofs.Whole.{whole_good}
-use Rattle.gz_scenario.specs.Refusals.{on_line}
-use Rattle.gz_scenario.specs.Events.{max_clock, max_key, max_value, max_producer, max_lines, max_line, flag_at, short_text, short_if, short_or_none, draft_members, draft_in, drafts_from, some_drafts, publish_members, publish_in, settle_in, apply_members, apply_in, joining, one_joining, join_members, join_in, expire_in, change_event, later_event, event_if, event_in, event_of}
+use Rattle.gz_links.specs.Outcomes.{of_fields}
+use Rattle.gz_links.specs.declared.error.SpecError.{SpecError}
+use Rattle.gz_links.proofs.Fields.{fields_went}
+use Rattle.gz_links.proofs.Whole.{whole_good}
+use Rattle.gz_scenario.specs.Refusals.{on_line, specs_on_line}
+use Rattle.gz_frame.specs.Messages.{max_key, max_value}
+use Rattle.gz_scenario.specs.Events.{max_clock, max_producer, max_lines, max_line, flag_at, short_text, short_if, short_or_none, draft_members, draft_in, drafts_from, some_drafts, publish_members, publish_in, settle_in, apply_members, apply_in, joining, one_joining, join_members, join_in, expire_in, change_event, later_event, event_if, event_in, event_of}
 use Rattle.gz_scenario.specs.Lawful.{is_short_text, is_draft, is_publish, is_start, is_apply, is_joiner, is_event}
 use Rattle.gz_scenario.specs.declared.error.ScenarioError.{ScenarioError}
 use Rattle.gz_scenario.specs.declared.error.ScenarioError.TheVariants as error
@@ -151,9 +157,9 @@ publish_good d p good is =
 start_good : (line : List ℕ) (specs : Specs) → specs_of line ≡ Ok specs → is_start specs ≡ true
 unfolding specs_of is_start
 start_good line specs is =
-    let a = step (part_of line) whole specs is in
+    let a = step (of_fields (part_of line)) whole specs is in
     subst (λ (s : Specs). (are_specs s && is_ok (whole s)) ≡ true) (whole_good a.0 specs a.2).same
-    (and_from (are_specs a.0) (is_ok (whole a.0)) (part_is_valid line a.0 a.1) (ap is_ok a.2))
+    (and_from (are_specs a.0) (is_ok (whole a.0)) (part_is_valid line a.0 (fields_went (part_of line) a.0 a.1)) (ap is_ok a.2))
 
 -- ---- an apply
 
@@ -174,18 +180,18 @@ joiner_good path d m is =
     let h = step (has_only path member_names d) _ m is in
     let id = step (name_at is_id path (codes "id") d) _ m h.2 in
     let zone = step (name_at is_id path (codes "zone") d) _ m id.2 in
-    let limit = step (number_at 0 1024 path (codes "limit") d) _ m zone.2 in
-    subst (λ (t : MemberSpec). (is_id t.id && is_id t.zone && is_between 0 1024 t.limit) ≡ true) (same_ok _ m limit.2)
-    (and_from (is_id id.0 && is_id zone.0) (is_between 0 1024 limit.0)
-    (and_from (is_id id.0) (is_id zone.0) (name_good is_id path (codes "id") id.0 d id.1)
-    (name_good is_id path (codes "zone") zone.0 d zone.1)) (limit_good path d limit.0 limit.1))
+    let limit = step (number_at 0 max_limit path (codes "limit") d) _ m zone.2 in
+    subst (λ (t : MemberSpec). (is_id t.id && (is_id t.zone && is_between 0 max_limit t.limit)) ≡ true) (same_ok _ m limit.2)
+    (and_from (is_id id.0) (is_id zone.0 && is_between 0 max_limit limit.0) (name_good is_id path (codes "id") id.0 d id.1)
+    (and_from (is_id zone.0) (is_between 0 max_limit limit.0) (name_good is_id path (codes "zone") zone.0 d zone.1)
+    (limit_good path d limit.0 limit.1)))
 
 joining_good : (kind : MemberKind) (name : List ℕ) (d : Data) (j : Join) → joining kind name d ≡ Ok j → is_joiner j.member ≡ true
 joining_good kind name d j is =
     let m = step (member_at name d) _ j is in
     subst (λ (t : Join). is_joiner t.member ≡ true) (same_ok _ j m.2) (joiner_good name d m.0 m.1)
 
-no_join : (e : SpecError) (j : Join) → (let r : Result Join SpecError = Err e in r ≡ Ok j) → ⊥
+no_join : (e : FieldError) (j : Join) → (let r : Result Join FieldError = Err e in r ≡ Ok j) → ⊥
 no_join e j is = cc
 
 one_good : (b c : Option Data) (j : Join) → one_joining b c ≡ Ok j → is_joiner j.member ≡ true
@@ -217,10 +223,15 @@ same_event : (a b : Event) → (let r : Result Event ScenarioError = Ok a in r �
 same_event a b is = cc
 
 -- what a line says is good where what is in it is
-said : {A : Type 0} (number : ℕ) (f : A → Event) (r : Result A SpecError) (e : Event)
+said : {A : Type 0} (number : ℕ) (f : A → Event) (r : Result A FieldError) (e : Event)
     → ((a : A) → r ≡ Ok a → is_event (f a) ≡ true) → on_line number f r ≡ Ok e → is_event e ≡ true
 said number f (Ok a) e good is = subst (λ x. is_event x ≡ true) (same_event (f a) e is) (good a refl)
 said number f (Err cause) e good is = absurd (no_event _ e is)
+
+specs_said : {A : Type 0} (number : ℕ) (f : A → Event) (r : Result A SpecError) (e : Event)
+    → ((a : A) → r ≡ Ok a → is_event (f a) ≡ true) → specs_on_line number f r ≡ Ok e → is_event e ≡ true
+specs_said number f (Ok a) e good is = subst (λ x. is_event x ≡ true) (same_event (f a) e is) (good a refl)
+specs_said number f (Err cause) e good is = absurd (no_event _ e is)
 
 settle_good : (d : Data) (e : Event) → settle_in d ≡ Ok e → is_event e ≡ true
 unfolding settle_in
@@ -246,12 +257,12 @@ later_turn number verb d e false false good is =
     change_turn number d e (bytes_eq verb (codes "apply")) (bytes_eq verb (codes "join")) (bytes_eq verb (codes "expire")) is
 
 first_turn : (number : ℕ) (line : List ℕ) (e : Event) (s : Bool)
-    → cond s (on_line number event.Specs (specs_of line)) (Err (error.Unknown number)) ≡ Ok e → is_event e ≡ true
-first_turn number line e true is = said number event.Specs (specs_of line) e (λ specs there. start_good line specs there) is
+    → cond s (specs_on_line number event.Specs (specs_of line)) (Err (error.Unknown number)) ≡ Ok e → is_event e ≡ true
+first_turn number line e true is = specs_said number event.Specs (specs_of line) e (λ specs there. start_good line specs there) is
 first_turn number line e false is = absurd (no_event _ e is)
 
 named_turn : (number : ℕ) (line verb : List ℕ) (d : Data) (e : Event) (first : Bool) → utf8_data d ≡ true
-    → cond first (cond (bytes_eq verb (codes "specs")) (on_line number event.Specs (specs_of line)) (Err (error.Unknown number)))
+    → cond first (cond (bytes_eq verb (codes "specs")) (specs_on_line number event.Specs (specs_of line)) (Err (error.Unknown number)))
     (later_event number verb d) ≡ Ok e
     → is_event e ≡ true
 named_turn number line verb d e true good is = first_turn number line e (bytes_eq verb (codes "specs")) is

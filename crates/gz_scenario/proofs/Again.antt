@@ -11,18 +11,21 @@ use Rattle.serde_json.specs.Read.{max_depth}
 use Rattle.serde_json.specs.View.{items_of}
 use Rattle.serde_json.proofs.OnLiterals.{serde_json_on_literals}
 use Rattle.gz_json.specs.Json.{json_of}
-use Rattle.gz_spec.specs.Names.{is_id, is_journal_name}
-use Rattle.gz_spec.specs.Printed.{member_data, specs_data, specs_data_as}
-use Rattle.gz_spec.specs.Form.{has_only}
+use Rattle.gz_fields.specs.Names.{is_id, is_journal_name}
+use Rattle.gz_print.specs.Printed.{member_data, specs_data, specs_data_as}
+use Rattle.gz_fields.specs.Form.{has_only, is_between}
 use Rattle.gz_spec.specs.Members.{member_with, member_at}
-use Rattle.gz_spec.specs.Specs.{journals_in, shards_in, whole, specs_of}
-use Rattle.gz_spec.specs.Valid.{is_between, are_journals, are_shards, are_specs}
+use Rattle.gz_spec.specs.Specs.{journals_in, shards_in, part_of}
+use Rattle.gz_links.specs.Whole.{whole, specs_of}
+use Rattle.gz_spec.specs.Valid.{are_journals, are_shards, are_specs}
+use Rattle.gz_spec.specs.Limits.{max_limit}
 use Rattle.gz_spec.specs.Records.{MemberSpec, Specs}
-use Rattle.gz_spec.specs.declared.error.SpecError.{SpecError}
-use Rattle.gz_spec.proofs.Whole.{whole_good}
-use Rattle.gz_spec.proofs.SpecsBack.{journals_back, shards_back}
-use Rattle.gz_spec.specs.Paths.{at_place}
-use Rattle.gz_scenario.specs.Events.{draft_in, drafts_from, some_drafts, publish_in, settle_in, apply_members, apply_in, join_in, expire_in, event_in, event_of, max_lines, max_line, max_clock, max_key, max_value, max_producer}
+use Rattle.gz_links.specs.declared.error.SpecError.{SpecError}
+use Rattle.gz_links.proofs.Whole.{whole_good, part_judged}
+use Rattle.gz_print.proofs.SpecsBack.{journals_back, shards_back}
+use Rattle.gz_fields.specs.Paths.{at_place}
+use Rattle.gz_frame.specs.Messages.{max_key, max_value}
+use Rattle.gz_scenario.specs.Events.{draft_in, drafts_from, some_drafts, publish_in, settle_in, apply_members, apply_in, join_in, expire_in, event_in, event_of, max_lines, max_line, max_clock, max_producer}
 use Rattle.gz_scenario.specs.Lawful.{is_short_text, is_draft, is_publish, is_start, is_apply, is_joiner}
 use Rattle.gz_scenario.specs.Printed.{draft_data, publish_data, settle_data, apply_data, join_data, expire_data, IsLine}
 use Rattle.gz_scenario.specs.declared.event.Flag.{Flag}
@@ -150,9 +153,9 @@ apply_again part h =
 joiner_again : (path : List ℕ) (m : MemberSpec) → is_joiner m ≡ true → member_at path (member_data m) ≡ Ok m
 unfolding member_at member_with is_joiner
 joiner_again path m h =
-    let a = and_parts (is_id m.id && is_id m.zone) (is_between 0 1024 m.limit) h in
-    let b = and_parts (is_id m.id) (is_id m.zone) a.0 in
-    rw (b.0, b.1, a.1) refl
+    let a = and_parts (is_id m.id) (is_id m.zone && is_between 0 max_limit m.limit) h in
+    let b = and_parts (is_id m.zone) (is_between 0 max_limit m.limit) a.1 in
+    rw (a.0, b.0, b.1) refl
 
 kind_again : (kind : MemberKind) (m : MemberSpec) → is_joiner m ≡ true
     → join_in (join_data (record { kind = kind; member = m })) ≡ Ok (record { kind = kind; member = m })
@@ -240,9 +243,8 @@ first_again s line says judged good short =
     rw (within 1 line (omega arith) short, says, start_verb s, judged, good) refl
 
 pub start_line : (s : Specs) (line : List ℕ) → is_start s ≡ true → json_of line ≡ Some (specs_data_as (codes "specs") s)
-    → ((are_specs s ≡ true) → specs_of line ≡ whole s) → IsLine (event.Specs s) line
+    → part_of line ≡ Ok s → IsLine (event.Specs s) line
 unfolding is_start
-start_line s line lawful says judged n first few short =
-    let valid = left (are_specs s) (is_ok (whole s)) lawful in
+start_line s line lawful says back n first few short =
     let good = whole_again s (whole s) refl (right (are_specs s) (is_ok (whole s)) lawful) in
-    rw first (first_again s line says (judged valid) good short)
+    rw first (first_again s line says (part_judged line s back) good short)

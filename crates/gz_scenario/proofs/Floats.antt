@@ -6,10 +6,10 @@ use Rattle.serde_json.specs.Data.{depth, items_depth}
 use Rattle.serde_json.specs.View.{items_of}
 use Rattle.serde_json.specs.Read.{max_depth}
 use Rattle.serde_json.specs.Written.{has_float, items_have_float}
-use Rattle.gz_spec.specs.Printed.{journal_data, shard_data}
+use Rattle.gz_print.specs.Printed.{journal_data, shard_data}
 use Rattle.gz_spec.specs.Records.{Specs}
-use Rattle.gz_spec.proofs.Datas.{list_float, journal_float, shard_float}
-use Rattle.gz_spec.proofs.Depths.{list_deep, one_up, wider, journal_deep, shard_deep}
+use Rattle.gz_print.proofs.Datas.{list_float, journal_float, shard_float}
+use Rattle.gz_print.proofs.Depths.{list_deep, one_up, wider, journal_deep, shard_deep}
 use Rattle.gz_scenario.specs.Printed.{draft_data, publish_data, settle_data, apply_data, join_data, expire_data}
 use Rattle.gz_scenario.specs.declared.event.Draft.{Draft}
 use Rattle.gz_scenario.specs.declared.event.Publish.{Publish}

@@ -5,3 +5,4 @@ pub mod NotEmpty
 pub mod Strings
 pub mod Texts
 pub mod Accepted
+pub mod Refused

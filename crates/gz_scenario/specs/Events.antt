@@ -5,15 +5,17 @@ use Rattle.serde_json.specs.Data.{Data, Items, no_items, item}
 use Rattle.serde_json.specs.Find.{get, as_str}
 use Rattle.gz_model.specs.Steps.{◌>>=◌}
 use Rattle.gz_json.specs.Json.{json_of}
-use Rattle.gz_spec.specs.Names.{is_id, is_journal_name}
-use Rattle.gz_spec.specs.Paths.{below, at_place}
-use Rattle.gz_spec.specs.Form.{found, has_only, text_at, name_at, number_at, number_or, items_at}
+use Rattle.gz_fields.specs.Names.{is_id, is_journal_name}
+use Rattle.gz_fields.specs.Paths.{below, at_place}
+use Rattle.gz_fields.specs.Form.{found, has_only, text_at, name_at, number_at, number_or, items_at}
 use Rattle.gz_spec.specs.Members.{member_at}
-use Rattle.gz_spec.specs.Specs.{journals_in, shards_in, specs_of}
+use Rattle.gz_spec.specs.Specs.{journals_in, shards_in}
+use Rattle.gz_links.specs.Whole.{specs_of}
 use Rattle.gz_spec.specs.Records.{Specs}
-use Rattle.gz_spec.specs.declared.error.SpecError.{SpecError}
-use Rattle.gz_spec.specs.declared.error.SpecError.TheVariants as spec
-use Rattle.gz_scenario.specs.Refusals.{on_line}
+use Rattle.gz_fields.specs.declared.error.FieldError.{FieldError}
+use Rattle.gz_fields.specs.declared.error.FieldError.TheVariants as field
+use Rattle.gz_frame.specs.Messages.{max_key, max_value}
+use Rattle.gz_scenario.specs.Refusals.{on_line, specs_on_line}
 use Rattle.gz_scenario.specs.declared.error.ScenarioError.{ScenarioError}
 use Rattle.gz_scenario.specs.declared.error.ScenarioError.TheVariants as error
 use Rattle.gz_scenario.specs.declared.event.Flag.{Flag}
@@ -28,24 +30,24 @@ use Rattle.gz_scenario.specs.declared.event.Event.TheVariants as event
 
 -- ---- messages
 
-abbrev pub flag_named : List ℕ → List ℕ → Result Flag SpecError
+abbrev pub flag_named : List ℕ → List ℕ → Result Flag FieldError
 flag_named path text =
     if bytes_eq text (codes "outside") then Ok Outside
     else (if bytes_eq text (codes "continue") then Ok Continue
-    else (if bytes_eq text (codes "ack") then Ok Ack else Err (spec.BadName path)))
+    else (if bytes_eq text (codes "ack") then Ok Ack else Err (field.BadName path)))
 
-abbrev pub flag_at : List ℕ → Data → Result Flag SpecError
+abbrev pub flag_at : List ℕ → Data → Result Flag FieldError
 flag_at path d = text_at path (codes "flag") d >>= λ text. flag_named (below path (codes "flag")) text
 
-abbrev pub short_text : ℕ → List ℕ → List ℕ → Result (List ℕ) SpecError
-short_text most path text = if nat_le (length text) most then Ok text else Err (spec.BadNumber path)
+abbrev pub short_text : ℕ → List ℕ → List ℕ → Result (List ℕ) FieldError
+short_text most path text = if nat_le (length text) most then Ok text else Err (field.BadNumber path)
 
-abbrev pub short_if : ℕ → List ℕ → Option Data → Result (List ℕ) SpecError
+abbrev pub short_if : ℕ → List ℕ → Option Data → Result (List ℕ) FieldError
 short_if most path None = Ok []
 short_if most path (Some d) = found path (as_str d) >>= λ text. short_text most path text
 
 -- a text of at most so many bytes, which may be absent, and is empty then
-abbrev pub short_or_none : ℕ → List ℕ → List ℕ → Data → Result (List ℕ) SpecError
+abbrev pub short_or_none : ℕ → List ℕ → List ℕ → Data → Result (List ℕ) FieldError
 short_or_none most path name d = short_if most (below path name) (get name d)
 
 abbrev pub draft_members : List (List ℕ)
@@ -55,15 +57,8 @@ draft_members = codes "flag" ∷ codes "clock" ∷ codes "key" ∷ codes "value"
 abbrev pub max_clock : ℕ
 max_clock = 18446744073709551615
 
--- the most bytes of a key and of a value
-abbrev pub max_key : ℕ
-max_key = 256
-
-abbrev pub max_value : ℕ
-max_value = 4096
-
 -- a message, without what its producer adds
-unfoldable pub draft_in : List ℕ → Data → Result Draft SpecError
+unfoldable pub draft_in : List ℕ → Data → Result Draft FieldError
 draft_in path d = do
   _ ← has_only path draft_members d
   flag ← flag_at path d
@@ -73,13 +68,13 @@ draft_in path d = do
   Ok (record { flag = flag; clock = clock; key = key; value = value })
 
 -- the messages from place i on
-abbrev pub drafts_from : List ℕ → ℕ → Items → Result (List Draft) SpecError
+abbrev pub drafts_from : List ℕ → ℕ → Items → Result (List Draft) FieldError
 drafts_from path i no_items = Ok []
 drafts_from path i (item d ds) = draft_in (at_place path i) d >>= λ draft. drafts_from path (i + 1) ds >>= λ rest. Ok (draft ∷ rest)
 
 -- at least one message
-abbrev pub some_drafts : List ℕ → Items → Result (List Draft) SpecError
-some_drafts path no_items = Err (spec.BadNumber path)
+abbrev pub some_drafts : List ℕ → Items → Result (List Draft) FieldError
+some_drafts path no_items = Err (field.BadNumber path)
 some_drafts path (item d ds) = drafts_from path 0 (item d ds)
 
 -- ---- publish
@@ -92,7 +87,7 @@ abbrev pub max_producer : ℕ
 max_producer = 1099511627775
 
 -- A client's messages for a journal. The first producer sends them where no other is said.
-unfoldable pub publish_in : Data → Result Publish SpecError
+unfoldable pub publish_in : Data → Result Publish FieldError
 publish_in d = do
   _ ← has_only [] publish_members d
   client ← name_at is_id [] (codes "client") d
@@ -104,7 +99,7 @@ publish_in d = do
 
 -- ---- settle
 
-unfoldable pub settle_in : Data → Result Event SpecError
+unfoldable pub settle_in : Data → Result Event FieldError
 settle_in d = do
   _ ← has_only [] (codes "do" ∷ []) d
   Ok event.Settle
@@ -115,7 +110,7 @@ abbrev pub apply_members : List (List ℕ)
 apply_members = codes "do" ∷ codes "journals" ∷ codes "shards" ∷ []
 
 -- Journals and shards, each list by itself: whether the journals that the shards name are there isn't asked.
-unfoldable pub apply_in : Data → Result Specs SpecError
+unfoldable pub apply_in : Data → Result Specs FieldError
 apply_in d = do
   _ ← has_only [] apply_members d
   journals ← journals_in d
@@ -128,20 +123,20 @@ abbrev pub join_members : List (List ℕ)
 join_members = codes "do" ∷ codes "broker" ∷ codes "consumer" ∷ []
 
 -- one member, where no other stands beside it
-abbrev pub joining : MemberKind → List ℕ → Data → Result Join SpecError
+abbrev pub joining : MemberKind → List ℕ → Data → Result Join FieldError
 joining kind name d = do
   m ← member_at name d
   Ok (record { kind = kind; member = m })
 
 -- Just one of the two is there. Where both are, the consumer is a bad field, and with neither the broker is.
-abbrev pub one_joining : Option Data → Option Data → Result Join SpecError
-one_joining None None = Err (spec.BadField (codes "broker"))
+abbrev pub one_joining : Option Data → Option Data → Result Join FieldError
+one_joining None None = Err (field.BadField (codes "broker"))
 one_joining None (Some c) = joining Consumer (codes "consumer") c
 one_joining (Some b) None = joining Broker (codes "broker") b
-one_joining (Some b) (Some c) = joining Broker (codes "broker") b >>= λ j. Err (spec.BadField (codes "consumer"))
+one_joining (Some b) (Some c) = joining Broker (codes "broker") b >>= λ j. Err (field.BadField (codes "consumer"))
 
 -- a broker or a consumer
-unfoldable pub join_in : Data → Result Join SpecError
+unfoldable pub join_in : Data → Result Join FieldError
 join_in d = do
   _ ← has_only [] join_members d
   one_joining (get (codes "broker") d) (get (codes "consumer") d)
@@ -149,7 +144,7 @@ join_in d = do
 -- ---- expire
 
 -- a member's id, which may be a reserved one
-unfoldable pub expire_in : Data → Result (List ℕ) SpecError
+unfoldable pub expire_in : Data → Result (List ℕ) FieldError
 expire_in d = do
   _ ← has_only [] (codes "do" ∷ codes "member" ∷ []) d
   name_at is_id [] (codes "member") d
@@ -173,7 +168,7 @@ later_event number verb d =
 abbrev pub event_named : ℕ → List ℕ → List ℕ → Data → Result Event ScenarioError
 event_named number line verb d =
     if number == 1
-    then (if bytes_eq verb (codes "specs") then on_line number event.Specs (specs_of line) else Err (error.Unknown number))
+    then (if bytes_eq verb (codes "specs") then specs_on_line number event.Specs (specs_of line) else Err (error.Unknown number))
     else later_event number verb d
 
 abbrev pub event_if : ℕ → List ℕ → Data → Option (List ℕ) → Result Event ScenarioError

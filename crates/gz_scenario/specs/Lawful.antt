@@ -2,11 +2,12 @@
 use Rattle.std.specs.Prelude.{ℕ, ◌&&◌, ◌==◌, List, length, nat_le, Bool, true, is_ok}
 use Rattle.std.specs.List.{list_all}
 use Rattle.std.specs.Str.{is_utf8}
-use Rattle.gz_spec.specs.Names.{is_id, is_journal_name}
-use Rattle.gz_spec.specs.Specs.{whole}
-use Rattle.gz_spec.specs.Valid.{is_between, are_specs}
+use Rattle.gz_fields.specs.Names.{is_id, is_journal_name}
+use Rattle.gz_links.specs.Whole.{whole}
+use Rattle.gz_spec.specs.Valid.{is_lone_member, are_specs}
 use Rattle.gz_spec.specs.Records.{MemberSpec, Specs}
-use Rattle.gz_scenario.specs.Events.{max_key, max_value, max_clock, max_producer}
+use Rattle.gz_frame.specs.Messages.{max_key, max_value}
+use Rattle.gz_scenario.specs.Events.{max_clock, max_producer}
 use Rattle.gz_scenario.specs.declared.event.Draft.{Draft}
 use Rattle.gz_scenario.specs.declared.event.Publish.{Publish}
 use Rattle.gz_scenario.specs.declared.event.Event.{Event}
@@ -36,7 +37,7 @@ is_apply part = are_specs part && length part.brokers == 0 && length part.consum
 
 -- a member of an id, a zone and a limit of their form; the id may be a reserved one
 unfoldable pub is_joiner : MemberSpec → Bool
-is_joiner m = is_id m.id && is_id m.zone && is_between 0 1024 m.limit
+is_joiner m = is_lone_member m
 
 abbrev pub is_event : Event → Bool
 is_event (event.Specs specs) = is_start specs

@@ -2,7 +2,7 @@
 use Rattle.std.specs.Prelude.{◌≡◌, ◌≤◌, ℕ, List, length, map, Ok, codes}
 use Rattle.serde_json.specs.Data.{Data, unsigned, number, string, array, object, no_members, member}
 use Rattle.serde_json.specs.View.{items_of}
-use Rattle.gz_spec.specs.Printed.{list_data, journal_data, shard_data, member_data, specs_data_as}
+use Rattle.gz_print.specs.Printed.{list_data, journal_data, shard_data, member_data, specs_data_as}
 use Rattle.gz_spec.specs.Records.{Specs}
 use Rattle.gz_scenario.specs.Events.{max_lines, max_line, event_of}
 use Rattle.gz_scenario.specs.declared.event.Flag.{Flag}

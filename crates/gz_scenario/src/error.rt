@@ -1,9 +1,10 @@
 //! Why a line is refused.
 ghost use Rattle.std.specs.Prelude.{◌≡◌, IfOk};
-ghost use Rattle.gz_scenario.specs.Refusals.{bad_field, about, refusal_text};
+ghost use Rattle.gz_scenario.specs.Refusals.{bad_field, bad_specs, about, refusal_text};
 
+use gz_fields::FieldError;
 use gz_label::{Blob, NoMemory};
-use gz_spec::SpecError;
+use gz_links::SpecError;
 use std::alloc::{AllocError, AllocFailed, Global};
 
 /// Why a line is refused. Lines are counted from 1.
@@ -35,16 +36,26 @@ impl From<NoMemory> for ScenarioError {
 }
 
 /// What is wrong in this line, by what is wrong at a place of it.
-pub fn bad_field(line: u64, error: SpecError) -> ScenarioError
+pub fn bad_field(line: u64, error: FieldError) -> ScenarioError
     ensures { result ≡ bad_field line error }
 {
     match error {
-        SpecError::NotJson => ScenarioError::NotJson { line },
-        SpecError::BadField { path } => ScenarioError::BadField { line, path },
-        SpecError::BadName { path } => ScenarioError::BadField { line, path },
-        SpecError::BadNumber { path } => ScenarioError::BadField { line, path },
-        SpecError::Codec { path } => ScenarioError::BadField { line, path },
-        SpecError::Twice { path } => ScenarioError::BadField { line, path },
+        FieldError::NotJson => ScenarioError::NotJson { line },
+        FieldError::BadField { path } => ScenarioError::BadField { line, path },
+        FieldError::BadName { path } => ScenarioError::BadField { line, path },
+        FieldError::BadNumber { path } => ScenarioError::BadField { line, path },
+        FieldError::Unsupported { path } => ScenarioError::BadField { line, path },
+        FieldError::Twice { path } => ScenarioError::BadField { line, path },
+        FieldError::NoMemory => ScenarioError::NoMemory,
+    }
+}
+
+/// What is wrong in this line, by what is wrong with its specifications.
+pub fn bad_specs(line: u64, error: SpecError) -> ScenarioError
+    ensures { result ≡ bad_specs line error }
+{
+    match error {
+        SpecError::Field(field) => bad_field(line, field),
         SpecError::NoJournal { path } => ScenarioError::BadField { line, path },
         SpecError::Cycle { path } => ScenarioError::BadField { line, path },
         SpecError::NoMemory => ScenarioError::NoMemory,

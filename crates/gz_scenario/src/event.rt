@@ -1,7 +1,7 @@
 //! The events of a scenario.
 ghost use Rattle.std.specs.Prelude.{◌≡◌};
 
-use crate::Text;
+use gz_app::Text;
 use gz_label::Name;
 use gz_spec::{MemberSpec, Specs};
 use std::marker::Model;

@@ -7,13 +7,11 @@ mod event;
 mod print;
 mod publish;
 mod read;
-mod text;
 
 pub use error::ScenarioError;
 pub use event::{Draft, Drafts, Event, Flag, Join, MemberKind, Publish};
 pub use print::{print_apply, print_event, print_expire, print_join, print_publish, print_settle};
 pub use read::read_event;
-pub use text::Text;
 
 #[cfg(test)]
 mod tests;

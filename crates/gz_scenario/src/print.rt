@@ -3,15 +3,16 @@ ghost use Rattle.std.specs.Prelude.{◌≡◌, IfOk, IsTrue, codes, map};
 ghost use Rattle.serde_json.specs.Data.{object, string, member, no_members, put};
 ghost use Rattle.serde_json.specs.View.{view, items_view, items_of};
 ghost use Rattle.serde_json.specs.Written.{compact_text};
-ghost use Rattle.gz_spec.specs.Printed.{member_data, specs_data_as};
+ghost use Rattle.gz_print.specs.Printed.{member_data, specs_data_as};
 ghost use Rattle.gz_scenario.specs.Printed.{flag_text, draft_data, publish_data, settle_data, apply_data, join_data, expire_data, event_data, IsLine};
 ghost use Rattle.gz_scenario.specs.Lawful.{is_start, is_publish, is_apply, is_joiner, is_event};
-ghost use Rattle.gz_spec.specs.Names.{is_id};
+ghost use Rattle.gz_fields.specs.Names.{is_id};
 ghost use Rattle.gz_scenario.specs.declared.event.Event.TheVariants as event;
 
 use crate::{Draft, Event, Flag, Join, MemberKind, Publish};
 use gz_label::{Blob, Name, NoMemory};
-use gz_spec::{MemberSpec, Specs, journal_values, member_value, print_specs_as, shard_values};
+use gz_print::{journal_values, member_value, print_specs_as, shard_values};
+use gz_spec::{MemberSpec, Specs};
 use serde_json::{Map, Value};
 use std::alloc::Global;
 

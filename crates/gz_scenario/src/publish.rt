@@ -1,19 +1,20 @@
 //! Publishes as JSON.
 ghost use Rattle.std.specs.Prelude.{◌≡◌};
 ghost use Rattle.serde_json.specs.View.{view, items_view};
-ghost use Rattle.gz_spec.specs.Outcomes.{Gives};
+ghost use Rattle.gz_fields.specs.Outcomes.{Gives};
 ghost use Rattle.gz_scenario.specs.Events.{flag_at, short_or_none, draft_in, drafts_from, some_drafts, publish_in};
 
-use crate::{Draft, Drafts, Flag, Publish, Text};
-use gz_label::Blob;
-use gz_spec::{
-    Range, SpecError, path_below, path_of_item, read_id, read_items, read_journal_name,
+use crate::{Draft, Drafts, Flag, Publish};
+use gz_app::Text;
+use gz_fields::{
+    FieldError, Range, path_below, path_of_item, read_id, read_items, read_journal_name,
     read_number, read_number_or, read_text, refuse_unknown,
 };
+use gz_label::Blob;
 use serde_json::Value;
 use std::alloc::Global;
 
-/// The most bytes of a message's key.
+/// The most bytes of a message's key, as messages have them: the clauses cite the numbers of `gz_frame`.
 const MAX_KEY: usize = 256;
 
 /// The most bytes of a message's value.
@@ -34,7 +35,7 @@ const PRODUCER: Range = Range {
 /// The producer where no other is said.
 const FIRST_PRODUCER: u64 = 1;
 
-fn read_flag(alloc: Global, path: &Blob, value: &Value) -> Result<Flag, SpecError>
+fn read_flag(alloc: Global, path: &Blob, value: &Value) -> Result<Flag, FieldError>
     ensures { Gives (λ f. f) result (flag_at path.now (view value.now)) }
 {
     let text = read_text(alloc, path, value, "flag")?;
@@ -47,7 +48,7 @@ fn read_flag(alloc: Global, path: &Blob, value: &Value) -> Result<Flag, SpecErro
     if text == "ack" {
         return Ok(Flag::Ack);
     }
-    Err(SpecError::BadName {
+    Err(FieldError::BadName {
         path: path_below(alloc, path, "flag")?,
     })
 }
@@ -59,7 +60,7 @@ fn read_short_or_none(
     value: &Value,
     name: &str,
     most: usize,
-) -> Result<Text, SpecError>
+) -> Result<Text, FieldError>
     ensures { Gives (λ text. text) result (short_or_none most path.now name.now (view value.now)) }
 {
     let Some(member) = value.get(name) else {
@@ -68,17 +69,17 @@ fn read_short_or_none(
     };
     let place = path_below(alloc, path, name)?;
     let Some(text) = member.as_str() else {
-        return Err(SpecError::BadField { path: place });
+        return Err(FieldError::BadField { path: place });
     };
     if text.len() > most {
-        return Err(SpecError::BadNumber { path: place });
+        return Err(FieldError::BadNumber { path: place });
     }
     let text = Text::of(alloc, text)?;
     Ok(text)
 }
 
 #[tactic(auto, unfolding(crate::specs::Events::draft_in))]
-fn read_draft(alloc: Global, path: &Blob, value: &Value) -> Result<Draft, SpecError>
+fn read_draft(alloc: Global, path: &Blob, value: &Value) -> Result<Draft, FieldError>
     ensures { Gives (λ m. m) result (draft_in path.now (view value.now)) }
 {
     refuse_unknown(alloc, path, value, &["flag", "clock", "key", "value"])?;
@@ -94,7 +95,7 @@ fn read_draft(alloc: Global, path: &Blob, value: &Value) -> Result<Draft, SpecEr
     })
 }
 
-fn read_each_draft(alloc: Global, path: &Blob, values: &[Value]) -> Result<Drafts, SpecError>
+fn read_each_draft(alloc: Global, path: &Blob, values: &[Value]) -> Result<Drafts, FieldError>
     ensures { Gives (λ ms. ms) result (drafts_from path.now 0 (items_view values.now)) }
 {
     let mut drafts = Vec::new(alloc);
@@ -106,11 +107,11 @@ fn read_each_draft(alloc: Global, path: &Blob, values: &[Value]) -> Result<Draft
     Ok(Drafts::of(drafts))
 }
 
-fn read_drafts(alloc: Global, path: &Blob, values: &[Value]) -> Result<Drafts, SpecError>
+fn read_drafts(alloc: Global, path: &Blob, values: &[Value]) -> Result<Drafts, FieldError>
     ensures { Gives (λ ms. ms) result (some_drafts path.now (items_view values.now)) }
 {
     if values.is_empty() {
-        return Err(SpecError::BadNumber { path: path.copy()? });
+        return Err(FieldError::BadNumber { path: path.copy()? });
     }
     let drafts = read_each_draft(alloc, path, values)?;
     Ok(drafts)
@@ -118,7 +119,7 @@ fn read_drafts(alloc: Global, path: &Blob, values: &[Value]) -> Result<Drafts, S
 
 /// The publish that the value is.
 #[tactic(auto, unfolding(crate::specs::Events::publish_in))]
-pub fn read_publish(alloc: Global, value: &Value) -> Result<Publish, SpecError>
+pub fn read_publish(alloc: Global, value: &Value) -> Result<Publish, FieldError>
     ensures { Gives (λ p. p) result (publish_in (view value.now)) }
 {
     let top = Blob::new(alloc);

@@ -1,18 +1,19 @@
 //! The events that lines say.
 ghost use Rattle.std.specs.Prelude.{◌≡◌, Some, IfOk, IsTrue};
 ghost use Rattle.serde_json.specs.View.{view};
-ghost use Rattle.gz_spec.specs.Outcomes.{Gives as GivesSpec};
+ghost use Rattle.gz_fields.specs.Outcomes.{Gives as GivesFields};
 ghost use Rattle.gz_scenario.specs.Outcomes.{Gives};
 ghost use Rattle.gz_scenario.specs.Refusals.{on_line};
 ghost use Rattle.gz_scenario.specs.Events.{settle_in, change_event, later_event, event_named, event_in, event_of};
 ghost use Rattle.gz_scenario.specs.Lawful.{is_event};
 
 use crate::change::{read_apply, read_expire, read_join};
-use crate::error::bad_field;
+use crate::error::{bad_field, bad_specs};
 use crate::publish::read_publish;
 use crate::{Event, ScenarioError};
+use gz_fields::{FieldError, refuse_unknown};
 use gz_label::Blob;
-use gz_spec::{SpecError, read_specs, refuse_unknown};
+use gz_links::read_specs;
 use serde_json::Value;
 use std::alloc::Global;
 
@@ -23,8 +24,8 @@ const MAX_LINES: u64 = 65_536;
 const MAX_LINE: usize = 4_194_304;
 
 #[tactic(auto, unfolding(crate::specs::Events::settle_in))]
-fn read_settle(alloc: Global, value: &Value) -> Result<Event, SpecError>
-    ensures { GivesSpec (λ e. e) result (settle_in (view value.now)) }
+fn read_settle(alloc: Global, value: &Value) -> Result<Event, FieldError>
+    ensures { GivesFields (λ e. e) result (settle_in (view value.now)) }
 {
     refuse_unknown(alloc, &Blob::new(alloc), value, &["do"])?;
     Ok(Event::Settle)
@@ -81,6 +82,7 @@ fn read_later(alloc: Global, number: u64, verb: &str, value: &Value) -> Result<E
 }
 
 /// The specifications that the first line says.
+#[tactic(auto, using(crate::proofs::Refused::specs_fail))]
 fn read_first(alloc: Global, verb: &str, line: &[u8], value: &Value) -> Result<Event, ScenarioError>
     ensures { Gives (λ e. e) result (event_named 1 line.now verb.now (view value.now)) }
 {
@@ -89,7 +91,7 @@ fn read_first(alloc: Global, verb: &str, line: &[u8], value: &Value) -> Result<E
     }
     match read_specs(alloc, line) {
         Ok(specs) => Ok(Event::Specs(specs)),
-        Err(e) => Err(bad_field(1, e)),
+        Err(e) => Err(bad_specs(1, e)),
     }
 }
 

@@ -1,8 +1,9 @@
 -- The application that the values of a label name.
 use Rattle.std.proofs.Common.{◌≡◌, ◌≢◌, ℕ, List, [], ◌∷◌, length, refl, arith, Some, None}
 use Rattle.gz_spec.specs.Firsts.{first}
-use Rattle.gz_spec.specs.Shards.{app_of, app_named}
-use Rattle.gz_spec.specs.Links.{framing_of, framing_named}
+use Rattle.gz_app.specs.Applications.{app_named}
+use Rattle.gz_spec.specs.Shards.{app_of}
+use Rattle.gz_spec.specs.Framings.{framing_of, framing_named}
 use Rattle.gz_spec.specs.declared.framing.Framing.TheVariants.{Bytes}
 
 pub app_of_one : (vs : List (List ℕ)) (v : List ℕ) → first vs ≡ Some v → length vs ≡ 1 → app_of vs ≡ app_named v

@@ -8,27 +8,30 @@ use Rattle.serde_json.specs.Find.{get, as_str}
 use Rattle.gz_model.specs.Steps.{◌>>=◌}
 use Rattle.gz_label.specs.Labels.{is_label_set, values_of}
 use Rattle.gz_label.specs.declared.label.Label.{Label}
-use Rattle.gz_spec.specs.declared.error.SpecError.{SpecError}
-use Rattle.gz_spec.specs.declared.error.SpecError.TheVariants.{BadField, BadName, BadNumber, Twice}
-use Rattle.gz_spec.specs.declared.app.App.{App}
-use Rattle.gz_spec.specs.declared.app.App.TheVariants.{Count, Relay, Latest}
+use Rattle.gz_fields.specs.declared.error.FieldError.{FieldError}
+use Rattle.gz_fields.specs.declared.error.FieldError.TheVariants.{BadField, BadName, BadNumber, Twice}
+use Rattle.gz_app.specs.declared.app.AppKind.{AppKind}
+use Rattle.gz_app.specs.declared.app.AppKind.TheVariants.{Count, Relay, Latest}
+use Rattle.gz_spec.specs.Limits.{max_journals, max_shards, max_members, max_limit}
 use Rattle.gz_spec.specs.Records.{JournalSpec, SourceSpec, ShardSpec, MemberSpec, Specs}
-use Rattle.gz_spec.specs.Paths.{below, at_place}
-use Rattle.gz_spec.specs.Names.{is_id, is_reserved, is_journal_name, is_hint_prefix}
-use Rattle.gz_spec.specs.Form.{value_of, found, has_only, named, name_at, name_if, name_or, number_or, number_at, flag_or, items_at, items_or_none}
-use Rattle.gz_spec.specs.Lists.{count, no_more_than, is_used, unused, each}
+use Rattle.gz_fields.specs.Paths.{below, at_place}
+use Rattle.gz_fields.specs.Names.{is_id, is_journal_name}
+use Rattle.gz_spec.specs.Reserved.{is_reserved, is_hint_prefix}
+use Rattle.gz_fields.specs.Form.{value_of, found, has_only, named, name_at, name_if, name_or, number_or, number_at, flag_or, items_at, items_or_none, is_between}
+use Rattle.gz_fields.specs.Lists.{count, no_more_than, is_used, unused, each}
 use Rattle.gz_spec.specs.Labels.{labels_at}
 use Rattle.gz_spec.specs.Journals.{journal_members, next_journal}
-use Rattle.gz_spec.specs.Shards.{source_members, next_source, journal_named, not_empty, sources_at, app_of, outputs_fit, labels_fit, shard_members, shard_with, shard_at, next_shard, shard_of}
+use Rattle.gz_spec.specs.Shards.{source_members, next_source, journal_named, not_empty, sources_at, app_of, outputs_fit, labels_fit, shard_members, shard_with, shard_at, next_shard}
 use Rattle.gz_spec.specs.Members.{member_names, member_with, not_reserved, next_member}
 use Rattle.gz_spec.specs.Specs.{specs_members, name_of_journal, id_of_shard, id_of_member, journals_in, shards_in, members_in, part_in, part_of}
-use Rattle.gz_spec.specs.Valid.{is_between, are_fresh, is_journal, is_source, app_takes, are_shard_labels, are_sources, is_shard, is_lone_member, is_member, are_journals, are_shards, are_members, are_specs}
-use Rattle.gz_spec.proofs.Readable.{step, same_ok, chosen, named_good, name_good, number_good, number_or_good, labels_good, journal_with_good}
+use Rattle.gz_spec.specs.Valid.{are_fresh, is_journal, is_source, app_takes, are_shard_labels, are_sources, is_shard, is_member, are_journals, are_shards, are_members, are_specs}
+use Rattle.gz_fields.proofs.Readable.{step, same_ok, chosen, named_good, name_good, number_good, number_or_good}
+use Rattle.gz_spec.proofs.Readable.{labels_good, journal_with_good}
 
 -- ---- steps
 
 -- what is refused where a test holds was passed where it fails
-pub passed : (t : Bool) (e : SpecError) (u : Unit {0}) → (cond t (Err e) (Ok tt)) ≡ Ok u → t ≡ false
+pub passed : (t : Bool) (e : FieldError) (u : Unit {0}) → (cond t (Err e) (Ok tt)) ≡ Ok u → t ≡ false
 passed true e u is = absurd (cc)
 passed false e u is = refl
 
@@ -61,7 +64,7 @@ record AreRead {A : Type 0} (name_of : A → List ℕ) (good : A → Bool) (used
   all : list_all good xs ≡ true
   fresh : are_fresh name_of used xs ≡ true
 
-each_good : {A : Type 0} (read : List ℕ → List (List ℕ) → Data → Result A SpecError) (name_of : A → List ℕ) (good : A → Bool)
+each_good : {A : Type 0} (read : List ℕ → List (List ℕ) → Data → Result A FieldError) (name_of : A → List ℕ) (good : A → Bool)
     → ((path : List ℕ) (used : List (List ℕ)) (d : Data) (a : A) → read path used d ≡ Ok a → (good a ≡ true) ×
     (is_used used (name_of a) ≡ false))
     → (ds : Items) (path : List ℕ) (i : ℕ) (used : List (List ℕ)) (xs : List A)
@@ -121,13 +124,13 @@ several_good path n u is =
     let s = step (not_empty path n) (λ _. no_more_than 8 path n) u is in
     both (nat_le 1 n) (nat_le n 8) (some_good path n s.0 s.1) (few_good 8 path n u s.2)
 
-outputs_good : (path : List ℕ) (n : ℕ) (app : App) (u : Unit {0}) → outputs_fit path n app ≡ Ok u
+outputs_good : (path : List ℕ) (n : ℕ) (app : AppKind) (u : Unit {0}) → outputs_fit path n app ≡ Ok u
     → app_takes n (Some app) ≡ true
 outputs_good path n Count u is = several_good path n u is
 outputs_good path n Relay u is = several_good path n u is
 outputs_good path n Latest u is = (chosen (nat_eq n 0) tt u (BadField path) is).0
 
-app_good : (path : List ℕ) (n : ℕ) (app : Option App) (u : Unit {0})
+app_good : (path : List ℕ) (n : ℕ) (app : Option AppKind) (u : Unit {0})
     → (found path app >>= λ a. outputs_fit path n a) ≡ Ok u → app_takes n app ≡ true
 app_good path n None u is = absurd (cc)
 app_good path n (Some app) u is = outputs_good path n app u is
@@ -196,12 +199,6 @@ next_shard_good path used d s is =
     let good = shard_with_good path n.0 d s (name_good is_id path (codes "id") n.0 d n.1) u.2 in
     (good.0, ap (is_used used) good.1 ∙ unused_good (below path (codes "id")) used n.0 u.0 u.1)
 
-pub shard_is_valid : (bytes : List ℕ) (s : ShardSpec) → shard_of bytes ≡ Ok s → is_shard s ≡ true
-unfolding shard_of
-shard_is_valid bytes s is =
-    let v = step (value_of bytes) _ s is in
-    shard_at_good [] v.0 s v.2
-
 -- ---- journals and members
 
 next_journal_good : (path : List ℕ) (used : List (List ℕ)) (d : Data) (j : JournalSpec)
@@ -214,23 +211,23 @@ next_journal_good path used d j is =
     let good = journal_with_good path n.0 d j (name_good is_journal_name path (codes "name") n.0 d n.1) u.2 in
     (good.0, ap (is_used used) good.1 ∙ unused_good (below path (codes "name")) used n.0 u.0 u.1)
 
-pub limit_good : (path : List ℕ) (d : Data) (n : ℕ) → number_at 0 1024 path (codes "limit") d ≡ Ok n
-    → is_between 0 1024 n ≡ true
+pub limit_good : (path : List ℕ) (d : Data) (n : ℕ) → number_at 0 max_limit path (codes "limit") d ≡ Ok n
+    → is_between 0 max_limit n ≡ true
 limit_good path d n is =
     let s = step (found (below path (codes "limit")) (get (codes "limit") d)) _ n is in
-    number_good 0 1024 (below path (codes "limit")) s.0 n s.2
+    number_good 0 max_limit (below path (codes "limit")) s.0 n s.2
 
 member_with_good : (path id : List ℕ) (d : Data) (m : MemberSpec) → is_id id ≡ true → is_reserved id ≡ false
     → member_with path id d ≡ Ok m → (is_member m ≡ true) × (m.id ≡ id)
 unfolding member_with
 member_with_good path id d m good free is =
     let zone = step (name_at is_id path (codes "zone") d) _ m is in
-    let limit = step (number_at 0 1024 path (codes "limit") d) _ m zone.2 in
+    let limit = step (number_at 0 max_limit path (codes "limit") d) _ m zone.2 in
     let P : MemberSpec → Type 0 = λ t. (is_member t ≡ true) × (t.id ≡ id) in
     subst P (same_ok _ m limit.2) (
       both (is_id id) _ good
           (both (not (is_reserved id)) _ (fresh_one (is_reserved id) free)
-          (both (is_id zone.0) (is_between 0 1024 limit.0) (name_good is_id path (codes "zone") zone.0 d zone.1)
+          (both (is_id zone.0) (is_between 0 max_limit limit.0) (name_good is_id path (codes "zone") zone.0 d zone.1)
           (limit_good path d limit.0 limit.1))),
       refl,
     )
@@ -251,35 +248,35 @@ next_member_good path used d m is =
 
 -- journals that were read from a list that isn't too long
 pub journals_read : (path : List ℕ) (items : Items) (u : Unit {0}) (js : List JournalSpec)
-    → no_more_than 1024 path (count items) ≡ Ok u → each next_journal name_of_journal path 0 [] items ≡ Ok js
+    → no_more_than max_journals path (count items) ≡ Ok u → each next_journal name_of_journal path 0 [] items ≡ Ok js
     → are_journals js ≡ true
 journals_read path items u js few is =
     let read = each_good next_journal name_of_journal is_journal next_journal_good items path 0 [] js is in
-    let P : ℕ → Type 0 = λ n. nat_le n 1024 ≡ true in
-    both (nat_le (length js) 1024) _ (subst P (sym read.many) (few_good 1024 path (count items) u few))
+    let P : ℕ → Type 0 = λ n. nat_le n max_journals ≡ true in
+    both (nat_le (length js) max_journals) _ (subst P (sym read.many) (few_good max_journals path (count items) u few))
     (both (list_all is_journal js) (are_fresh name_of_journal [] js) read.all read.fresh)
 
 pub shards_read : (path : List ℕ) (items : Items) (u : Unit {0}) (ss : List ShardSpec)
-    → no_more_than 256 path (count items) ≡ Ok u → each next_shard id_of_shard path 0 [] items ≡ Ok ss
+    → no_more_than max_shards path (count items) ≡ Ok u → each next_shard id_of_shard path 0 [] items ≡ Ok ss
     → are_shards ss ≡ true
 shards_read path items u ss few is =
     let read = each_good next_shard id_of_shard is_shard next_shard_good items path 0 [] ss is in
-    let P : ℕ → Type 0 = λ n. nat_le n 256 ≡ true in
-    both (nat_le (length ss) 256) _ (subst P (sym read.many) (few_good 256 path (count items) u few))
+    let P : ℕ → Type 0 = λ n. nat_le n max_shards ≡ true in
+    both (nat_le (length ss) max_shards) _ (subst P (sym read.many) (few_good max_shards path (count items) u few))
     (both (list_all is_shard ss) (are_fresh id_of_shard [] ss) read.all read.fresh)
 
 pub journals_good : (d : Data) (js : List JournalSpec) → journals_in d ≡ Ok js → are_journals js ≡ true
 unfolding journals_in
 journals_good d js is =
     let items = step (items_or_none [] (codes "journals") d) _ js is in
-    let few = step (no_more_than 1024 (codes "journals") (count items.0)) _ js items.2 in
+    let few = step (no_more_than max_journals (codes "journals") (count items.0)) _ js items.2 in
     journals_read (codes "journals") items.0 few.0 js few.1 few.2
 
 pub shards_good : (d : Data) (ss : List ShardSpec) → shards_in d ≡ Ok ss → are_shards ss ≡ true
 unfolding shards_in
 shards_good d ss is =
     let items = step (items_or_none [] (codes "shards") d) _ ss is in
-    let few = step (no_more_than 256 (codes "shards") (count items.0)) _ ss items.2 in
+    let few = step (no_more_than max_shards (codes "shards") (count items.0)) _ ss items.2 in
     shards_read (codes "shards") items.0 few.0 ss few.1 few.2
 
 members_good : (name : List ℕ) (used : List (List ℕ)) (d : Data) (ms : List MemberSpec)
@@ -287,11 +284,11 @@ members_good : (name : List ℕ) (used : List (List ℕ)) (d : Data) (ms : List 
 unfolding members_in
 members_good name used d ms is =
     let items = step (items_or_none [] name d) _ ms is in
-    let few = step (no_more_than 64 name (length used + count items.0)) _ ms items.2 in
+    let few = step (no_more_than max_members name (length used + count items.0)) _ ms items.2 in
     let read = each_good next_member id_of_member is_member next_member_good items.0 name 0 used ms few.2 in
-    let P : ℕ → Type 0 = λ n. nat_le (length used + n) 64 ≡ true in
-    both (nat_le (length used + length ms) 64) _
-    (subst P (sym read.many) (few_good 64 name (length used + count items.0) few.0 few.1))
+    let P : ℕ → Type 0 = λ n. nat_le (length used + n) max_members ≡ true in
+    both (nat_le (length used + length ms) max_members) _
+    (subst P (sym read.many) (few_good max_members name (length used + count items.0) few.0 few.1))
     (both (list_all is_member ms) (are_fresh id_of_member used ms) read.all read.fresh)
 
 pub part_in_good : (d : Data) (specs : Specs) → part_in d ≡ Ok specs → are_specs specs ≡ true
@@ -317,13 +314,6 @@ part_is_valid bytes specs is =
     part_in_good v.0 specs v.2
 
 -- ---- what is made of what was read
-
-pub source_made : (path name : List ℕ) (d : Data) (min_offset : ℕ) → name_at is_journal_name path (codes "journal") d ≡ Ok name
-    → number_or 0 0 (2 ^ 62) path (codes "min_offset") d ≡ Ok min_offset
-    → is_source (record { journal = name; min_offset = min_offset }) ≡ true
-source_made path name d min_offset n o =
-    both (is_journal_name name) (is_between 0 (2 ^ 62) min_offset) (name_good is_journal_name path (codes "journal") name d n)
-    (number_or_good 0 0 (2 ^ 62) (below path (codes "min_offset")) (get (codes "min_offset") d) min_offset refl o)
 
 pub shard_made : (path id : List ℕ) (d : Data) (sources : List SourceSpec) (log hint : List ℕ) (backups standbys : ℕ) (disable : Bool)
     (labels : List Label) (u : Unit {0}) → is_id id ≡ true → sources_at path d ≡ Ok sources
@@ -355,13 +345,6 @@ shard_made path id d sources log hint backups standbys disable labels u good s l
       disable = disable;
       labels = labels;
     }) good (rw (s, l, h, b, t, f, ls, fit) refl)).0
-
-pub lone_member_made : (path id : List ℕ) (d : Data) (zone : List ℕ) (limit : ℕ) → is_id id ≡ true
-    → name_at is_id path (codes "zone") d ≡ Ok zone → number_at 0 1024 path (codes "limit") d ≡ Ok limit
-    → is_lone_member (record { id = id; zone = zone; limit = limit }) ≡ true
-lone_member_made path id d zone limit good z l =
-    both (is_id id) _ good (both (is_id zone) (is_between 0 1024 limit) (name_good is_id path (codes "zone") zone d z)
-    (limit_good path d limit l))
 
 pub part_made : (d : Data) (js : List JournalSpec) (ss : List ShardSpec) (bs cs : List MemberSpec) (us vs : List (List ℕ))
     → journals_in d ≡ Ok js → shards_in d ≡ Ok ss → us ≡ [] → members_in (codes "brokers") us d ≡ Ok bs

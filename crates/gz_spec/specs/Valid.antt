@@ -3,16 +3,16 @@ use Rattle.std.specs.Prelude.{ℕ, ◌^◌, ◌+◌, ◌&&◌, List, [], ◌∷�
 use Rattle.std.specs.List.{list_all}
 use Rattle.gz_label.specs.Labels.{is_label_set, values_of}
 use Rattle.gz_label.specs.declared.label.Label.{Label}
-use Rattle.gz_spec.specs.Names.{is_id, is_reserved, is_journal_name, is_hint_prefix}
-use Rattle.gz_spec.specs.Lists.{is_used}
+use Rattle.gz_fields.specs.Names.{is_id, is_journal_name}
+use Rattle.gz_spec.specs.Reserved.{is_reserved, is_hint_prefix}
+use Rattle.gz_fields.specs.Lists.{is_used}
+use Rattle.gz_fields.specs.Form.{is_between}
+use Rattle.gz_spec.specs.Limits.{max_journals, max_shards, max_members, max_limit}
 use Rattle.gz_spec.specs.Shards.{app_of, journal_named}
 use Rattle.gz_spec.specs.Specs.{name_of_journal, id_of_shard, id_of_member}
-use Rattle.gz_spec.specs.declared.app.App.{App}
-use Rattle.gz_spec.specs.declared.app.App.TheVariants.{Count, Relay, Latest}
+use Rattle.gz_app.specs.declared.app.AppKind.{AppKind}
+use Rattle.gz_app.specs.declared.app.AppKind.TheVariants.{Count, Relay, Latest}
 use Rattle.gz_spec.specs.Records.{JournalSpec, SourceSpec, ShardSpec, MemberSpec, Specs}
-
-abbrev pub is_between : ℕ → ℕ → ℕ → Bool
-is_between least most n = nat_le least n && nat_le n most
 
 -- no two of one name, and none of the used ones
 abbrev pub are_fresh : {A : Type 0} → (A → List ℕ) → List (List ℕ) → List A → Bool
@@ -28,7 +28,7 @@ abbrev pub is_source : SourceSpec → Bool
 is_source s = is_journal_name s.journal && is_between 0 (2 ^ 62) s.min_offset
 
 -- The applications `count` and `relay` have 1 to 8 outputs, and `latest` has none.
-abbrev pub app_takes : ℕ → Option App → Bool
+abbrev pub app_takes : ℕ → Option AppKind → Bool
 app_takes n None = false
 app_takes n (Some Count) = is_between 1 8 n
 app_takes n (Some Relay) = is_between 1 8 n
@@ -48,23 +48,23 @@ is_shard s =
 
 -- a member by itself, of a reserved id too
 abbrev pub is_lone_member : MemberSpec → Bool
-is_lone_member m = is_id m.id && (is_id m.zone && is_between 0 1024 m.limit)
+is_lone_member m = is_id m.id && (is_id m.zone && is_between 0 max_limit m.limit)
 
 -- a member of a cluster
 abbrev pub is_member : MemberSpec → Bool
-is_member m = is_id m.id && (not (is_reserved m.id) && (is_id m.zone && is_between 0 1024 m.limit))
+is_member m = is_id m.id && (not (is_reserved m.id) && (is_id m.zone && is_between 0 max_limit m.limit))
 
 -- ---- the four lists
 
 abbrev pub are_journals : List JournalSpec → Bool
-are_journals js = nat_le (length js) 1024 && (list_all is_journal js && are_fresh name_of_journal [] js)
+are_journals js = nat_le (length js) max_journals && (list_all is_journal js && are_fresh name_of_journal [] js)
 
 abbrev pub are_shards : List ShardSpec → Bool
-are_shards ss = nat_le (length ss) 256 && (list_all is_shard ss && are_fresh id_of_shard [] ss)
+are_shards ss = nat_le (length ss) max_shards && (list_all is_shard ss && are_fresh id_of_shard [] ss)
 
 -- members behind those of these ids, at most 64 in all
 abbrev pub are_members : List (List ℕ) → List MemberSpec → Bool
-are_members used ms = nat_le (length used + length ms) 64 && (list_all is_member ms && are_fresh id_of_member used ms)
+are_members used ms = nat_le (length used + length ms) max_members && (list_all is_member ms && are_fresh id_of_member used ms)
 
 abbrev pub are_specs : Specs → Bool
 are_specs s = are_journals s.journals && (are_shards s.shards && (are_members [] s.brokers && are_members (map id_of_member s.brokers) s.consumers))

@@ -1,26 +1,16 @@
 //! What a shard does with its messages, which its labels say.
 ghost use Rattle.std.specs.Prelude.{◌≡◌, length, Ok, option_map, codes};
 ghost use Rattle.gz_label.specs.Labels.{values_of};
-ghost use Rattle.gz_spec.specs.Outcomes.{Gives};
+ghost use Rattle.gz_fields.specs.Outcomes.{Gives};
 ghost use Rattle.gz_spec.specs.Firsts.{first};
-ghost use Rattle.gz_spec.specs.Shards.{app_named, app_of, outputs_fit, labels_fit};
+ghost use Rattle.gz_spec.specs.Shards.{app_of, outputs_fit, labels_fit};
 
-use crate::SpecError;
+use gz_app::{AppKind, app_of};
+use gz_fields::FieldError;
 use gz_label::{Blob, Label, Name};
 
 /// The most outputs of a shard.
 const MAX_OUTPUTS: usize = 8;
-
-/// What a shard does with its messages.
-#[derive(Clone, Copy, Debug, PartialEq, Eq)]
-pub enum App {
-    /// Counts the messages of each key.
-    Count,
-    /// Hands each message on.
-    Relay,
-    /// Keeps the last value of each key.
-    Latest,
-}
 
 /// The first value of the labels of this name.
 pub fn first_value<'a>(labels: &'a [Label], name: &[u8]) -> Option<&'a Name>
@@ -47,25 +37,10 @@ pub fn count_values(labels: &[Label], name: &[u8]) -> usize
     n
 }
 
-fn app_named(text: &[u8]) -> Option<App>
-    ensures { result ≡ app_named text.now }
-{
-    if text == b"count".as_slice() {
-        return Some(App::Count);
-    }
-    if text == b"relay".as_slice() {
-        return Some(App::Relay);
-    }
-    if text == b"latest".as_slice() {
-        return Some(App::Latest);
-    }
-    None
-}
-
 /// The application that the labels name: the only value of the label `app`, where that is `count`,
 /// `relay` or `latest`.
 #[tactic(auto, using(crate::proofs::Apps::app_of_one, crate::proofs::Apps::app_of_more))]
-pub fn app_in(labels: &[Label]) -> Option<App>
+pub fn app_in(labels: &[Label]) -> Option<AppKind>
     ensures { result ≡ app_of (values_of (codes "app") labels.now) }
 {
     let n = count_values(labels, b"app");
@@ -74,27 +49,27 @@ pub fn app_in(labels: &[Label]) -> Option<App>
     }
     match first_value(labels, b"app") {
         None => None,
-        Some(value) => app_named(value.as_slice()),
+        Some(value) => app_of(value),
     }
 }
 
 /// Refuses a number of outputs that the application doesn't take.
-fn refuse_outputs(path: Blob, app: App, n: usize) -> Result<(), SpecError>
+fn refuse_outputs(path: Blob, app: AppKind, n: usize) -> Result<(), FieldError>
     ensures { Gives (λ u. u) result (outputs_fit path n app) }
 {
     match app {
-        App::Latest => {
+        AppKind::Latest => {
             if n == 0 {
                 Ok(())
             } else {
-                Err(SpecError::BadField { path })
+                Err(FieldError::BadField { path })
             }
         }
-        App::Count | App::Relay => {
+        AppKind::Count | AppKind::Relay => {
             if n == 0 {
-                Err(SpecError::BadField { path })
+                Err(FieldError::BadField { path })
             } else if n > MAX_OUTPUTS {
-                Err(SpecError::BadNumber { path })
+                Err(FieldError::BadNumber { path })
             } else {
                 Ok(())
             }
@@ -105,11 +80,11 @@ fn refuse_outputs(path: Blob, app: App, n: usize) -> Result<(), SpecError>
 /// Refuses labels that name no application, or not as many outputs as it takes. The path is that of
 /// the labels.
 #[tactic(auto, unfolding(crate::specs::Shards::labels_fit))]
-pub fn refuse_labels(path: Blob, labels: &[Label]) -> Result<(), SpecError>
+pub fn refuse_labels(path: Blob, labels: &[Label]) -> Result<(), FieldError>
     ensures { Gives (λ u. u) result (labels_fit path labels.now) }
 {
     match app_in(labels) {
-        None => Err(SpecError::BadField { path }),
+        None => Err(FieldError::BadField { path }),
         Some(app) => {
             let n = count_values(labels, b"output");
             refuse_outputs(path, app, n)

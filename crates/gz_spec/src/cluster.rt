@@ -1,27 +1,19 @@
 //! The specifications of a cluster as JSON: four lists.
-ghost use Rattle.std.specs.Prelude.{◌≡◌, ◌++◌, ◌+◌, [], ◌∷◌, length, map, IfOk, IsTrue, codes};
+ghost use Rattle.std.specs.Prelude.{◌≡◌, ◌++◌, ◌+◌, [], map, IfOk, IsTrue};
 ghost use Rattle.serde_json.specs.View.{view, items_view};
-ghost use Rattle.gz_spec.specs.Outcomes.{Gives};
-ghost use Rattle.gz_spec.specs.Lists.{count, no_more_than, each};
+ghost use Rattle.gz_fields.specs.Outcomes.{Gives};
+ghost use Rattle.gz_fields.specs.Lists.{count, no_more_than, each};
+ghost use Rattle.gz_spec.specs.Limits.{max_members};
 ghost use Rattle.gz_spec.specs.Journals.{next_journal};
 ghost use Rattle.gz_spec.specs.Shards.{next_shard};
 ghost use Rattle.gz_spec.specs.Members.{next_member};
-ghost use Rattle.gz_spec.specs.Specs.{name_of_journal, id_of_shard, id_of_member, journals_in, shards_in, members_in, part_in, part_of, acyclic, whole, specs_of};
+ghost use Rattle.gz_spec.specs.Specs.{name_of_journal, id_of_shard, id_of_member, journals_in, shards_in, members_in, part_in, part_of};
 ghost use Rattle.gz_spec.specs.Valid.{are_journals, are_shards, are_specs};
-ghost use Rattle.gz_spec.specs.Joins.{contents_kept, joined, join_of};
-ghost use Rattle.gz_spec.specs.Cycles.{first_cycle, IsToldCycle};
 
-use crate::SpecError;
-use crate::by_name::{JournalsByName, ShardsById};
-use crate::cycles::first_cycle;
-use crate::form::{parse, read_items_or_none, refuse_unknown};
-use crate::joins::{joined_journals, joined_shards, refuse_changed, refuse_more};
 use crate::journal::{JournalSpec, read_next_journal};
-use crate::links::refuse_unlinked;
-use crate::lists::refuse_long;
 use crate::member::{MemberSpec, read_next_member};
-use crate::paths::path_of_item;
 use crate::shard::{ShardSpec, read_next_shard};
+use gz_fields::{FieldError, parse, path_of_item, read_items_or_none, refuse_long, refuse_unknown};
 use gz_label::{Blob, Name, NoMemory};
 use indexmap::IndexSet;
 use serde_json::Value;
@@ -29,13 +21,13 @@ use std::alloc::Global;
 use std::marker::Model;
 
 /// The most journals.
-const MAX_JOURNALS: usize = 1024;
+pub const MAX_JOURNALS: usize = 1024;
 
 /// The most shards.
-const MAX_SHARDS: usize = 256;
+pub const MAX_SHARDS: usize = 256;
 
 /// The most members, brokers and consumers together.
-const MAX_MEMBERS: usize = 64;
+pub const MAX_MEMBERS: usize = 64;
 
 /// Journals, which a contract sees as their list.
 #[derive(Debug, Drop)]
@@ -76,10 +68,6 @@ impl Journals {
         ensures { result.items ≡ self }
     {
         self.journals
-    }
-
-    fn allocator(&self) -> Global {
-        *self.journals.allocator()
     }
 
     /// The journals. It takes no memory.
@@ -238,7 +226,7 @@ impl Model for Specs {
     ghost invariant = { λ a. IsTrue (are_specs (record { journals = a.journals; shards = a.shards; brokers = a.brokers; consumers = a.consumers })) };
 }
 
-fn read_each_journal(alloc: Global, path: &Blob, values: &[Value]) -> Result<Journals, SpecError>
+fn read_each_journal(alloc: Global, path: &Blob, values: &[Value]) -> Result<Journals, FieldError>
     ensures { Gives (λ js. js) result (each next_journal name_of_journal path.now 0 [] (items_view values.now)) }
 {
     let mut used = IndexSet::new(alloc);
@@ -253,7 +241,7 @@ fn read_each_journal(alloc: Global, path: &Blob, values: &[Value]) -> Result<Jou
 
 /// The journals of the object's member `journals`, and none where it is absent.
 #[tactic(auto, unfolding(crate::specs::Specs::journals_in))]
-pub fn read_journals(alloc: Global, value: &Value) -> Result<Journals, SpecError>
+pub fn read_journals(alloc: Global, value: &Value) -> Result<Journals, FieldError>
     ensures gives { Gives (λ js. js) result (journals_in (view value.now)) }
     ensures valid { IfOk result (λ js. IsTrue (are_journals js)) }
 {
@@ -264,7 +252,7 @@ pub fn read_journals(alloc: Global, value: &Value) -> Result<Journals, SpecError
     Ok(journals)
 }
 
-fn read_each_shard(alloc: Global, path: &Blob, values: &[Value]) -> Result<Shards, SpecError>
+fn read_each_shard(alloc: Global, path: &Blob, values: &[Value]) -> Result<Shards, FieldError>
     ensures { Gives (λ ss. ss) result (each next_shard id_of_shard path.now 0 [] (items_view values.now)) }
 {
     let mut used = IndexSet::new(alloc);
@@ -280,7 +268,7 @@ fn read_each_shard(alloc: Global, path: &Blob, values: &[Value]) -> Result<Shard
 /// The shards of the object's member `shards`, and none where it is absent. Whether the journals that they
 /// name are there isn't asked.
 #[tactic(auto, unfolding(crate::specs::Specs::shards_in))]
-pub fn read_shards(alloc: Global, value: &Value) -> Result<Shards, SpecError>
+pub fn read_shards(alloc: Global, value: &Value) -> Result<Shards, FieldError>
     ensures gives { Gives (λ ss. ss) result (shards_in (view value.now)) }
     ensures valid { IfOk result (λ ss. IsTrue (are_shards ss)) }
 {
@@ -297,7 +285,7 @@ fn read_each_member(
     path: &Blob,
     used: &mut IndexSet<Name>,
     values: &[Value],
-) -> Result<Members, SpecError>
+) -> Result<Members, FieldError>
     ensures gives { Gives (λ ms. ms) result (each next_member id_of_member path.now 0 used.old.keys (items_view values.now)) }
     ensures noted { IfOk result (λ ms. used.new.keys ≡ used.old.keys ++ map id_of_member ms) }
 {
@@ -311,12 +299,12 @@ fn read_each_member(
 }
 
 /// Refuses a list of members that has too many with those of the used ids.
-#[tactic(auto, using(crate::proofs::Counts::count_view))]
-fn refuse_crowd(path: &Blob, used: usize, values: &[Value]) -> Result<(), SpecError>
-    ensures { Gives (λ u. u) result (no_more_than 64 path.now (used + count (items_view values.now))) }
+#[tactic(auto, using(gz_fields::proofs::Counts::count_view))]
+fn refuse_crowd(path: &Blob, used: usize, values: &[Value]) -> Result<(), FieldError>
+    ensures { Gives (λ u. u) result (no_more_than max_members path.now (used + count (items_view values.now))) }
 {
     if used > MAX_MEMBERS || values.len() > MAX_MEMBERS - used {
-        return Err(SpecError::BadNumber { path: path.copy()? });
+        return Err(FieldError::BadNumber { path: path.copy()? });
     }
     Ok(())
 }
@@ -328,7 +316,7 @@ fn read_members(
     name: &str,
     used: &mut IndexSet<Name>,
     value: &Value,
-) -> Result<Members, SpecError>
+) -> Result<Members, FieldError>
     ensures gives { Gives (λ ms. ms) result (members_in name.now used.old.keys (view value.now)) }
     ensures noted { IfOk result (λ ms. used.new.keys ≡ used.old.keys ++ map id_of_member ms) }
 {
@@ -340,7 +328,7 @@ fn read_members(
 }
 
 #[tactic(auto, unfolding(crate::specs::Specs::part_in))]
-fn read_part_in(alloc: Global, value: &Value) -> Result<Specs, SpecError>
+fn read_part_in(alloc: Global, value: &Value) -> Result<Specs, FieldError>
     ensures { Gives (λ s. s) result (part_in (view value.now)) }
 {
     let top = Blob::new(alloc);
@@ -367,98 +355,13 @@ fn read_part_in(alloc: Global, value: &Value) -> Result<Specs, SpecError>
 /// there isn't asked. A member `do` of the outermost object is passed over. What is read is printed and read
 /// back the same.
 #[tactic(auto, unfolding(crate::specs::Specs::part_of))]
-pub fn read_part(alloc: Global, bytes: &[u8]) -> Result<Specs, SpecError>
+pub fn read_part(alloc: Global, bytes: &[u8]) -> Result<Specs, FieldError>
     ensures gives { Gives (λ s. s) result (part_of bytes.now) }
     ensures valid { IfOk result (λ s. IsTrue (are_specs s)) }
 {
     let value = parse(alloc, bytes)?;
     let specs = read_part_in(alloc, &value)?;
     Ok(specs)
-}
-
-/// Refuses shards one of which reaches itself.
-#[tactic(auto, unfolding(crate::specs::Specs::acyclic))]
-fn refuse_cycle(alloc: Global, shards: &[ShardSpec]) -> Result<(), SpecError>
-    ensures { Gives (λ u. u) result (acyclic shards.now) }
-{
-    let found = first_cycle(alloc, shards)?;
-    match found {
-        None => Ok(()),
-        Some(i) => {
-            let list = Blob::of(alloc, b"shards")?;
-            let path = path_of_item(alloc, &list, i)?;
-            Err(SpecError::Cycle { path })
-        }
-    }
-}
-
-/// Refuses shards the first of which names a journal that isn't there, and then shards one of which
-/// reaches itself.
-#[tactic(auto, using(crate::proofs::ByName::specs_fresh), unfolding(crate::specs::Specs::whole))]
-fn refuse_broken(alloc: Global, specs: &Specs) -> Result<(), SpecError>
-    ensures { Gives (λ _. specs.now) result (whole specs.now) }
-{
-    let journals = JournalsByName::of(alloc, specs.journals.as_slice())?;
-    refuse_unlinked(alloc, &journals, specs.shards.as_slice())?;
-    refuse_cycle(alloc, specs.shards.as_slice())?;
-    Ok(())
-}
-
-/// The four lists that the text says. A member `do` of the outermost object is passed over. What is read is
-/// printed and read back the same.
-#[tactic(auto, unfolding(crate::specs::Specs::specs_of))]
-pub fn read_specs(alloc: Global, bytes: &[u8]) -> Result<Specs, SpecError>
-    ensures gives { Gives (λ s. s) result (specs_of bytes.now) }
-    ensures valid { IfOk result (λ s. IsTrue (are_specs s)) }
-{
-    let specs = read_part(alloc, bytes)?;
-    refuse_broken(alloc, &specs)?;
-    Ok(specs)
-}
-
-/// Refuses the first of more that changes what the journal of its name holds.
-#[tactic(auto, using(crate::proofs::ByName::journals_fresh))]
-fn refuse_changes(alloc: Global, old: &Journals, more: &Journals) -> Result<(), SpecError>
-    requires { IsTrue (are_journals old.now) }
-    ensures { Gives (λ u. u) result (contents_kept old.now 0 more.now) }
-{
-    let here = JournalsByName::of(alloc, old.as_slice())?;
-    refuse_changed(alloc, &here, more.as_slice())?;
-    Ok(())
-}
-
-/// The journals of both. BadNumber where there are more than 1,024.
-#[tactic(auto, using(crate::proofs::ByName::journals_fresh))]
-fn join_journals(alloc: Global, old: &Journals, more: &Journals) -> Result<Journals, SpecError>
-    requires old { IsTrue (are_journals old.now) }
-    requires more { IsTrue (are_journals more.now) }
-    ensures gives { Gives (λ _. tt) result (no_more_than 1024 (codes "journals") (length (joined name_of_journal old.now more.now))) }
-    ensures both { IfOk result (λ js. js ≡ joined name_of_journal old.now more.now) }
-    ensures valid { IfOk result (λ js. IsTrue (are_journals js)) }
-{
-    let here = JournalsByName::of(alloc, old.as_slice())?;
-    let there = JournalsByName::of(alloc, more.as_slice())?;
-    let both = joined_journals(alloc, &here, &there)?;
-    let journals = Journals::of(both);
-    refuse_more(alloc, "journals", journals.as_slice().len(), MAX_JOURNALS)?;
-    Ok(journals)
-}
-
-/// The shards of both. BadNumber where there are more than 256.
-#[tactic(auto, using(crate::proofs::ByName::shards_fresh))]
-fn join_shards(alloc: Global, old: &Shards, more: &Shards) -> Result<Shards, SpecError>
-    requires old { IsTrue (are_shards old.now) }
-    requires more { IsTrue (are_shards more.now) }
-    ensures gives { Gives (λ _. tt) result (no_more_than 256 (codes "shards") (length (joined id_of_shard old.now more.now))) }
-    ensures both { IfOk result (λ ss. ss ≡ joined id_of_shard old.now more.now) }
-    ensures valid { IfOk result (λ ss. IsTrue (are_shards ss)) }
-{
-    let here = ShardsById::of(alloc, old.as_slice())?;
-    let there = ShardsById::of(alloc, more.as_slice())?;
-    let both = joined_shards(alloc, &here, &there)?;
-    let shards = Shards::of(both);
-    refuse_more(alloc, "shards", shards.as_slice().len(), MAX_SHARDS)?;
-    Ok(shards)
 }
 
 impl Specs {
@@ -472,36 +375,5 @@ impl Specs {
             brokers: self.brokers.copy()?,
             consumers: self.consumers.copy()?,
         })
-    }
-
-    /// These with the journals and shards of `more`: one of a name that is there replaces it in its place,
-    /// and the new ones follow in their order. The members stay. BadField with the path of the labels in
-    /// `more` where the values of a replaced journal's label `content-type` would change; else BadNumber
-    /// where there would be more than 1,024 journals or 256 shards; then NoJournal and Cycle, of all.
-    #[tactic(auto, unfolding(crate::specs::Joins::join_of))]
-    pub fn join(&self, more: &Specs) -> Result<Specs, SpecError>
-        ensures gives { Gives (λ specs. specs) result (join_of self.now more.now) }
-        ensures valid { IfOk result (λ specs. IsTrue (are_specs specs)) }
-    {
-        let alloc = self.journals.allocator();
-        refuse_changes(alloc, &self.journals, &more.journals)?;
-        let specs = Specs {
-            journals: join_journals(alloc, &self.journals, &more.journals)?,
-            shards: join_shards(alloc, &self.shards, &more.shards)?,
-            brokers: self.brokers.copy()?,
-            consumers: self.consumers.copy()?,
-        };
-        refuse_broken(alloc, &specs)?;
-        Ok(specs)
-    }
-
-    /// The place of the first shard whose outputs reach its own sources, if there is one: a path leads
-    /// from it to itself, each shard of which writes to a journal that the next reads.
-    pub fn first_cycle(&self, alloc: Global) -> Result<Option<usize>, NoMemory>
-        ensures value { IfOk result (λ found. found ≡ first_cycle self.now.shards) }
-        ensures told { IfOk result (λ found. IsToldCycle self.now.shards found) }
-    {
-        let found = first_cycle(alloc, self.shards.as_slice())?;
-        Ok(found)
     }
 }

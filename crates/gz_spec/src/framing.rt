@@ -1,7 +1,7 @@
 //! What a journal holds, which its labels say.
 ghost use Rattle.std.specs.Prelude.{◌≡◌, codes};
 ghost use Rattle.gz_label.specs.Labels.{values_of};
-ghost use Rattle.gz_spec.specs.Links.{framing_named, framing_of, framing_in};
+ghost use Rattle.gz_spec.specs.Framings.{framing_named, framing_of, framing_in};
 
 use crate::JournalSpec;
 use crate::app::{count_values, first_value};

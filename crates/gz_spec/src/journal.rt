@@ -2,18 +2,17 @@
 ghost use Rattle.std.specs.Prelude.{◌≡◌, ◌++◌, ◌∷◌, [], IfOk, IsTrue, codes};
 ghost use Rattle.serde_json.specs.View.{view};
 ghost use Rattle.serde_json.specs.Find.{get};
-ghost use Rattle.gz_spec.specs.Paths.{below};
-ghost use Rattle.gz_spec.specs.Outcomes.{Gives};
-ghost use Rattle.gz_spec.specs.Names.{is_journal_name};
+ghost use Rattle.gz_fields.specs.Paths.{below};
+ghost use Rattle.gz_fields.specs.Outcomes.{Gives};
+ghost use Rattle.gz_fields.specs.Names.{is_journal_name};
 ghost use Rattle.gz_spec.specs.Valid.{is_journal};
 ghost use Rattle.gz_spec.specs.Journals.{fragment_in, fragment_at, codec_if, journal_with, journal_at, journal_of, next_journal};
 
-use crate::SpecError;
-use crate::form::{Range, parse, read_number_or, refuse_unknown};
 use crate::labels::read_labels;
-use crate::lists::use_name;
-use crate::names::read_journal_name;
-use crate::paths::path_below;
+use gz_fields::{
+    FieldError, Range, parse, path_below, read_journal_name, read_number_or, refuse_unknown,
+    use_name,
+};
 use gz_label::{Blob, LabelSet, Name, NoMemory};
 use indexmap::IndexSet;
 use serde_json::Value;
@@ -72,7 +71,7 @@ impl JournalSpec {
 }
 
 /// Refuses fragments that are to be compressed.
-fn refuse_codec(alloc: Global, path: &Blob, fragment: &Value) -> Result<(), SpecError>
+fn refuse_codec(alloc: Global, path: &Blob, fragment: &Value) -> Result<(), FieldError>
     ensures { Gives (λ u. u) result (codec_if (below path.now (codes "compression_codec")) (get (codes "compression_codec") (view fragment.now))) }
 {
     let Some(codec) = fragment.get("compression_codec") else {
@@ -80,19 +79,19 @@ fn refuse_codec(alloc: Global, path: &Blob, fragment: &Value) -> Result<(), Spec
     };
     let place = path_below(alloc, path, "compression_codec")?;
     match codec.as_str() {
-        None => Err(SpecError::BadField { path: place }),
+        None => Err(FieldError::BadField { path: place }),
         Some(text) => {
             if text == "NONE" {
                 Ok(())
             } else {
-                Err(SpecError::Codec { path: place })
+                Err(FieldError::Unsupported { path: place })
             }
         }
     }
 }
 
 #[tactic(auto, unfolding(crate::specs::Journals::fragment_in))]
-fn read_fragment_in(alloc: Global, path: &Blob, fragment: &Value) -> Result<u64, SpecError>
+fn read_fragment_in(alloc: Global, path: &Blob, fragment: &Value) -> Result<u64, FieldError>
     ensures { Gives (λ n. n) result (fragment_in path.now (view fragment.now)) }
 {
     refuse_unknown(alloc, path, fragment, &["length", "compression_codec"])?;
@@ -101,7 +100,7 @@ fn read_fragment_in(alloc: Global, path: &Blob, fragment: &Value) -> Result<u64,
     Ok(bytes)
 }
 
-fn read_fragment(alloc: Global, path: &Blob, value: &Value) -> Result<u64, SpecError>
+fn read_fragment(alloc: Global, path: &Blob, value: &Value) -> Result<u64, FieldError>
     ensures { Gives (λ n. n) result (fragment_at path.now (view value.now)) }
 {
     let Some(fragment) = value.get("fragment") else {
@@ -119,7 +118,7 @@ fn read_rest(
     path: &Blob,
     name: Name,
     value: &Value,
-) -> Result<JournalSpec, SpecError>
+) -> Result<JournalSpec, FieldError>
     requires { IsTrue (is_journal_name name) }
     ensures gives { Gives (λ j. j) result (journal_with path.now name (view value.now)) }
     ensures named { IfOk result (λ j. j.name ≡ name) }
@@ -136,7 +135,7 @@ fn read_rest(
 }
 
 #[tactic(auto, unfolding(crate::specs::Journals::journal_at))]
-fn read_journal_at(alloc: Global, path: &Blob, value: &Value) -> Result<JournalSpec, SpecError>
+fn read_journal_at(alloc: Global, path: &Blob, value: &Value) -> Result<JournalSpec, FieldError>
     ensures { Gives (λ j. j) result (journal_at path.now (view value.now)) }
 {
     refuse_unknown(
@@ -157,7 +156,7 @@ pub fn read_next_journal(
     path: &Blob,
     used: &mut IndexSet<Name>,
     value: &Value,
-) -> Result<JournalSpec, SpecError>
+) -> Result<JournalSpec, FieldError>
     ensures gives { Gives (λ j. j) result (next_journal path.now used.old.keys (view value.now)) }
     ensures noted { IfOk result (λ j. used.new.keys ≡ used.old.keys ++ j.name ∷ []) }
 {
@@ -177,7 +176,7 @@ pub fn read_next_journal(
 /// The journal that the text is, by itself. Paths begin at the journal. What is read is printed and read back
 /// the same.
 #[tactic(auto, unfolding(crate::specs::Journals::journal_of))]
-pub fn read_journal(alloc: Global, bytes: &[u8]) -> Result<JournalSpec, SpecError>
+pub fn read_journal(alloc: Global, bytes: &[u8]) -> Result<JournalSpec, FieldError>
     ensures gives { Gives (λ j. j) result (journal_of bytes.now) }
     ensures valid { IfOk result (λ j. IsTrue (is_journal j)) }
 {

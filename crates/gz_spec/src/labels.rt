@@ -2,12 +2,11 @@
 ghost use Rattle.std.specs.Prelude.{◌≡◌, ◌≤◌, ◌++◌, length, [], IsTrue};
 ghost use Rattle.serde_json.specs.View.{view, items_view, members_view};
 ghost use Rattle.gz_label.specs.Labels.{is_label_name, is_label_value, with_label};
-ghost use Rattle.gz_spec.specs.Outcomes.{Gives};
+ghost use Rattle.gz_fields.specs.Outcomes.{Gives};
 ghost use Rattle.gz_spec.specs.Labels.{label_at, labels_from, labels_named, all_labels, fitting, put_each, labels_in, labels_at};
-ghost use Rattle.gz_spec.specs.Behind.{behind};
+ghost use Rattle.gz_fields.specs.Behind.{behind};
 
-use crate::SpecError;
-use crate::paths::{path_below, path_of_item};
+use gz_fields::{FieldError, path_below, path_of_item};
 use gz_label::{Blob, Label, LabelError, LabelSet, Name};
 use serde_json::{Map, Value};
 use std::alloc::Global;
@@ -34,15 +33,15 @@ fn is_value(text: &[u8]) -> bool
 
 /// The label of this name whose value stands here.
 #[tactic(auto, unfolding(crate::specs::Labels::label_at))]
-fn read_label(alloc: Global, path: Blob, name: &str, value: &Value) -> Result<Label, SpecError>
+fn read_label(alloc: Global, path: Blob, name: &str, value: &Value) -> Result<Label, FieldError>
     requires { length name.now ≤ 1024 }
     ensures { Gives (λ label. label) result (label_at path name.now (view value.now)) }
 {
     let Some(text) = value.as_str() else {
-        return Err(SpecError::BadField { path });
+        return Err(FieldError::BadField { path });
     };
     if !is_value(text.as_bytes()) {
-        return Err(SpecError::BadName { path });
+        return Err(FieldError::BadName { path });
     }
     let name = Name::of(alloc, name)?;
     let value = Name::of(alloc, text)?;
@@ -56,7 +55,7 @@ fn read_values(
     name: &str,
     values: &[Value],
     labels: &mut Vec<Label>,
-) -> Result<(), SpecError>
+) -> Result<(), FieldError>
     requires { length name.now ≤ 1024 }
     ensures { Gives (λ _. labels.new.items) result (behind labels.old.items (labels_from path.now name.now 0 (items_view values.now))) }
 {
@@ -76,14 +75,14 @@ fn read_labels_named(
     name: &str,
     values: &Value,
     labels: &mut Vec<Label>,
-) -> Result<(), SpecError>
+) -> Result<(), FieldError>
     ensures { Gives (λ _. labels.new.items) result (behind labels.old.items (labels_named path name.now (view values.now))) }
 {
     if !is_name(name.as_bytes()) {
-        return Err(SpecError::BadName { path });
+        return Err(FieldError::BadName { path });
     }
     let Some(values) = values.as_array() else {
-        return Err(SpecError::BadField { path });
+        return Err(FieldError::BadField { path });
     };
     read_values(alloc, &path, name, values.as_slice(), labels)?;
     Ok(())
@@ -94,7 +93,7 @@ fn read_all_labels(
     alloc: Global,
     path: &Blob,
     members: &Map<String, Value>,
-) -> Result<Vec<Label>, SpecError>
+) -> Result<Vec<Label>, FieldError>
     ensures { Gives (λ labels. labels.items) result (all_labels path.now (members_view members.now.entries)) }
 {
     let mut labels = Vec::new(alloc);
@@ -107,7 +106,7 @@ fn read_all_labels(
 }
 
 /// The set of the labels.
-fn set_of(alloc: Global, path: &Blob, labels: &[Label]) -> Result<LabelSet, SpecError>
+fn set_of(alloc: Global, path: &Blob, labels: &[Label]) -> Result<LabelSet, FieldError>
     ensures { Gives (λ set. set) result (put_each path.now [] labels.now) }
 {
     let mut set = LabelSet::new(alloc);
@@ -119,23 +118,23 @@ fn set_of(alloc: Global, path: &Blob, labels: &[Label]) -> Result<LabelSet, Spec
 }
 
 /// Puts the label into the set, which has room for so many.
-fn put_label(path: &Blob, set: &mut LabelSet, label: Label) -> Result<(), SpecError>
+fn put_label(path: &Blob, set: &mut LabelSet, label: Label) -> Result<(), FieldError>
     ensures { Gives (λ _. set.new) result (fitting path.now (with_label label set.old)) }
 {
     match set.insert(label) {
         Ok(()) => Ok(()),
-        Err(LabelError::BadName { .. }) => Err(SpecError::BadName { path: path.copy()? }),
-        Err(LabelError::TooMany) => Err(SpecError::BadNumber { path: path.copy()? }),
-        Err(LabelError::NoMemory) => Err(SpecError::NoMemory),
+        Err(LabelError::BadName { .. }) => Err(FieldError::BadName { path: path.copy()? }),
+        Err(LabelError::TooMany) => Err(FieldError::BadNumber { path: path.copy()? }),
+        Err(LabelError::NoMemory) => Err(FieldError::NoMemory),
     }
 }
 
 #[tactic(auto, unfolding(crate::specs::Labels::labels_in))]
-fn read_labels_in(alloc: Global, path: &Blob, value: &Value) -> Result<LabelSet, SpecError>
+fn read_labels_in(alloc: Global, path: &Blob, value: &Value) -> Result<LabelSet, FieldError>
     ensures { Gives (λ set. set) result (labels_in path.now (view value.now)) }
 {
     let Some(members) = value.as_object() else {
-        return Err(SpecError::BadField { path: path.copy()? });
+        return Err(FieldError::BadField { path: path.copy()? });
     };
     let labels = read_all_labels(alloc, path, members)?;
     let set = set_of(alloc, path, labels.as_slice())?;
@@ -143,7 +142,7 @@ fn read_labels_in(alloc: Global, path: &Blob, value: &Value) -> Result<LabelSet,
 }
 
 /// The labels of the object, and none where they are absent.
-pub fn read_labels(alloc: Global, path: &Blob, value: &Value) -> Result<LabelSet, SpecError>
+pub fn read_labels(alloc: Global, path: &Blob, value: &Value) -> Result<LabelSet, FieldError>
     ensures { Gives (λ set. set) result (labels_at path.now (view value.now)) }
 {
     let Some(labels) = value.get("labels") else {

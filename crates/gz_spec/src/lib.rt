@@ -1,42 +1,30 @@
-//! Specifications of journals, shards and members, as JSON.
+//! Specifications of journals, shards and members: what each is, which are valid, and how they are read from
+//! JSON. Whether the journals that shards name are there is asked above.
+//!
+//! ```text
+//! let part = read_part(alloc, b"{\"journals\":[{\"name\":\"a\"}]}")?;
+//! let name = &part.journals.as_slice()[0].name;
+//! ```
 #![tactic(auto)]
 
 mod app;
-mod by_name;
 mod cluster;
-mod cycles;
-mod error;
-mod form;
 mod framing;
-mod joins;
 mod journal;
 mod labels;
-mod levels;
-mod links;
-mod lists;
 mod member;
-mod names;
-mod paths;
-mod print;
+mod reserved;
 mod shard;
 mod source;
 
-pub use app::App;
 pub use cluster::{
-    Journals, Members, Shards, Specs, read_journals, read_part, read_shards, read_specs,
+    Journals, MAX_JOURNALS, MAX_MEMBERS, MAX_SHARDS, Members, Shards, Specs, read_journals,
+    read_part, read_shards,
 };
-pub use error::SpecError;
-pub use form::{Range, read_items, read_number, read_number_or, read_text, refuse_unknown};
 pub use framing::Framing;
 pub use journal::{JournalSpec, read_journal};
-pub use links::held;
-pub use member::{MemberSpec, read_member, read_member_at};
-pub use names::{is_reserved, read_id, read_journal_name};
-pub use paths::{path_below, path_of_item};
-pub use print::{
-    journal_values, member_value, print_journal, print_shard, print_specs, print_specs_as,
-    shard_values,
-};
+pub use member::{MAX_LIMIT, MemberSpec, read_member, read_member_at};
+pub use reserved::is_reserved;
 pub use shard::{ShardSpec, read_shard};
 pub use source::{SourceSpec, Sources};
 

@@ -1,26 +1,28 @@
 //! The members of a cluster: brokers and consumers.
 ghost use Rattle.std.specs.Prelude.{◌≡◌, ◌++◌, ◌∷◌, [], IfOk, IsTrue};
 ghost use Rattle.serde_json.specs.View.{view};
-ghost use Rattle.gz_spec.specs.Outcomes.{Gives};
-ghost use Rattle.gz_spec.specs.Names.{is_id};
+ghost use Rattle.gz_fields.specs.Outcomes.{Gives};
+ghost use Rattle.gz_fields.specs.Names.{is_id};
 ghost use Rattle.gz_spec.specs.Valid.{is_lone_member};
 ghost use Rattle.gz_spec.specs.Members.{member_with, member_at, next_member, member_of};
 
-use crate::SpecError;
-use crate::form::{Range, parse, read_number, refuse_unknown};
-use crate::lists::use_name;
-use crate::names::{is_reserved, read_id};
-use crate::paths::path_below;
+use crate::reserved::is_reserved;
+use gz_fields::{
+    FieldError, Range, parse, path_below, read_id, read_number, refuse_unknown, use_name,
+};
 use gz_label::{Blob, Name, NoMemory};
 use indexmap::IndexSet;
 use serde_json::Value;
 use std::alloc::Global;
 use std::marker::Model;
 
+/// The most items that a member takes.
+pub const MAX_LIMIT: u64 = 1024;
+
 /// How many items a member takes.
 const LIMIT: Range = Range {
     least: 0,
-    most: 1024,
+    most: MAX_LIMIT,
 };
 
 /// A broker or a consumer: its id, its zone, which is of the form of an id, and how many items it takes, which are at
@@ -60,7 +62,7 @@ impl MemberSpec {
 
 /// The member of this id, by what follows the id.
 #[tactic(auto, unfolding(crate::specs::Members::member_with))]
-fn read_rest(alloc: Global, path: &Blob, id: Name, value: &Value) -> Result<MemberSpec, SpecError>
+fn read_rest(alloc: Global, path: &Blob, id: Name, value: &Value) -> Result<MemberSpec, FieldError>
     requires { IsTrue (is_id id) }
     ensures gives { Gives (λ m. m) result (member_with path.now id (view value.now)) }
     ensures named { IfOk result (λ m. m.id ≡ id) }
@@ -78,7 +80,7 @@ pub fn read_next_member(
     path: &Blob,
     used: &mut IndexSet<Name>,
     value: &Value,
-) -> Result<MemberSpec, SpecError>
+) -> Result<MemberSpec, FieldError>
     ensures gives { Gives (λ m. m) result (next_member path.now used.old.keys (view value.now)) }
     ensures noted { IfOk result (λ m. used.new.keys ≡ used.old.keys ++ m.id ∷ []) }
 {
@@ -86,7 +88,7 @@ pub fn read_next_member(
     let id = read_id(alloc, path, value, "id")?;
     let place = path_below(alloc, path, "id")?;
     if is_reserved(id.as_slice()) {
-        return Err(SpecError::BadName { path: place });
+        return Err(FieldError::BadName { path: place });
     }
     use_name(used, place, &id)?;
     let member = read_rest(alloc, path, id, value)?;
@@ -95,7 +97,7 @@ pub fn read_next_member(
 
 /// The member that the value at this place is, by itself: a reserved id is taken.
 #[tactic(auto, unfolding(crate::specs::Members::member_at))]
-pub fn read_member_at(alloc: Global, path: &Blob, value: &Value) -> Result<MemberSpec, SpecError>
+pub fn read_member_at(alloc: Global, path: &Blob, value: &Value) -> Result<MemberSpec, FieldError>
     ensures gives { Gives (λ m. m) result (member_at path.now (view value.now)) }
     ensures valid { IfOk result (λ m. IsTrue (is_lone_member m)) }
 {
@@ -107,7 +109,7 @@ pub fn read_member_at(alloc: Global, path: &Blob, value: &Value) -> Result<Membe
 
 /// The member that the text is, by itself: a reserved id is taken. Paths begin at the member.
 #[tactic(auto, unfolding(crate::specs::Members::member_of))]
-pub fn read_member(alloc: Global, bytes: &[u8]) -> Result<MemberSpec, SpecError>
+pub fn read_member(alloc: Global, bytes: &[u8]) -> Result<MemberSpec, FieldError>
     ensures gives { Gives (λ m. m) result (member_of bytes.now) }
     ensures valid { IfOk result (λ m. IsTrue (is_lone_member m)) }
 {

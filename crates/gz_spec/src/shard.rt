@@ -2,19 +2,20 @@
 ghost use Rattle.std.specs.Prelude.{◌≡◌, ◌++◌, ◌∷◌, [], IfOk, IsTrue, codes};
 ghost use Rattle.serde_json.specs.View.{view};
 ghost use Rattle.gz_label.specs.Labels.{values_of};
-ghost use Rattle.gz_spec.specs.Outcomes.{Gives};
-ghost use Rattle.gz_spec.specs.Names.{is_id};
+ghost use Rattle.gz_fields.specs.Outcomes.{Gives};
+ghost use Rattle.gz_fields.specs.Names.{is_id};
 ghost use Rattle.gz_spec.specs.Valid.{is_shard};
 ghost use Rattle.gz_spec.specs.Shards.{app_of, shard_with, shard_at, shard_of, next_shard};
 
-use crate::SpecError;
-use crate::app::{App, app_in, refuse_labels};
-use crate::form::{Range, parse, read_flag_or, read_number_or, refuse_unknown};
+use crate::app::{app_in, refuse_labels};
 use crate::labels::read_labels;
-use crate::lists::use_name;
-use crate::names::{read_hint_prefix, read_id, read_journal_name};
-use crate::paths::path_below;
+use crate::reserved::read_hint_prefix;
 use crate::source::{Sources, read_sources};
+use gz_app::AppKind;
+use gz_fields::{
+    FieldError, Range, parse, path_below, read_flag_or, read_id, read_journal_name, read_number_or,
+    refuse_unknown, use_name,
+};
 use gz_label::{Blob, LabelSet, Name, NoMemory};
 use indexmap::IndexSet;
 use serde_json::Value;
@@ -72,7 +73,7 @@ impl Model for ShardSpec {
 
 impl ShardSpec {
     /// What the shard does, which each shard that was read has.
-    pub fn app(&self) -> Option<App>
+    pub fn app(&self) -> Option<AppKind>
         ensures { result ≡ app_of (values_of (codes "app") self.now.labels) }
     {
         app_in(self.labels.as_slice())
@@ -97,7 +98,7 @@ impl ShardSpec {
 
 /// The shard of this id, by what follows the id.
 #[tactic(auto, unfolding(crate::specs::Shards::shard_with))]
-fn read_rest(alloc: Global, path: &Blob, id: Name, value: &Value) -> Result<ShardSpec, SpecError>
+fn read_rest(alloc: Global, path: &Blob, id: Name, value: &Value) -> Result<ShardSpec, FieldError>
     requires { IsTrue (is_id id) }
     ensures gives { Gives (λ s. s) result (shard_with path.now id (view value.now)) }
     ensures named { IfOk result (λ s. s.id ≡ id) }
@@ -124,7 +125,7 @@ fn read_rest(alloc: Global, path: &Blob, id: Name, value: &Value) -> Result<Shar
 }
 
 #[tactic(auto, unfolding(crate::specs::Shards::shard_at))]
-fn read_shard_at(alloc: Global, path: &Blob, value: &Value) -> Result<ShardSpec, SpecError>
+fn read_shard_at(alloc: Global, path: &Blob, value: &Value) -> Result<ShardSpec, FieldError>
     ensures { Gives (λ s. s) result (shard_at path.now (view value.now)) }
 {
     refuse_unknown(alloc, path, value, &MEMBERS)?;
@@ -140,7 +141,7 @@ pub fn read_next_shard(
     path: &Blob,
     used: &mut IndexSet<Name>,
     value: &Value,
-) -> Result<ShardSpec, SpecError>
+) -> Result<ShardSpec, FieldError>
     ensures gives { Gives (λ s. s) result (next_shard path.now used.old.keys (view value.now)) }
     ensures noted { IfOk result (λ s. used.new.keys ≡ used.old.keys ++ s.id ∷ []) }
 {
@@ -155,7 +156,7 @@ pub fn read_next_shard(
 /// The shard that the text is, by itself. Paths begin at the shard. What is read is printed and read back
 /// the same.
 #[tactic(auto, unfolding(crate::specs::Shards::shard_of))]
-pub fn read_shard(alloc: Global, bytes: &[u8]) -> Result<ShardSpec, SpecError>
+pub fn read_shard(alloc: Global, bytes: &[u8]) -> Result<ShardSpec, FieldError>
     ensures gives { Gives (λ s. s) result (shard_of bytes.now) }
     ensures valid { IfOk result (λ s. IsTrue (is_shard s)) }
 {

@@ -1,15 +1,14 @@
 //! The sources of a shard as JSON.
 ghost use Rattle.std.specs.Prelude.{◌≡◌, ◌++◌, ◌∷◌, [], IfOk};
 ghost use Rattle.serde_json.specs.View.{view, items_view};
-ghost use Rattle.gz_spec.specs.Outcomes.{Gives};
-ghost use Rattle.gz_spec.specs.Lists.{count, each};
+ghost use Rattle.gz_fields.specs.Outcomes.{Gives};
+ghost use Rattle.gz_fields.specs.Lists.{count, each};
 ghost use Rattle.gz_spec.specs.Shards.{next_source, sources_at, journal_named, not_empty};
 
-use crate::SpecError;
-use crate::form::{Range, read_items, read_number_or, refuse_unknown};
-use crate::lists::{refuse_long, use_name};
-use crate::names::read_journal_name;
-use crate::paths::{path_below, path_of_item};
+use gz_fields::{
+    FieldError, Range, path_below, path_of_item, read_items, read_journal_name, read_number_or,
+    refuse_long, refuse_unknown, use_name,
+};
 use gz_label::{Blob, Name, NoMemory};
 use indexmap::IndexSet;
 use serde_json::Value;
@@ -121,7 +120,7 @@ fn read_next_source(
     path: &Blob,
     used: &mut IndexSet<Name>,
     value: &Value,
-) -> Result<SourceSpec, SpecError>
+) -> Result<SourceSpec, FieldError>
     ensures gives { Gives (λ s. s) result (next_source path.now used.old.keys (view value.now)) }
     ensures noted { IfOk result (λ s. used.new.keys ≡ used.old.keys ++ s.journal ∷ []) }
 {
@@ -136,7 +135,7 @@ fn read_next_source(
     })
 }
 
-fn read_each_source(alloc: Global, path: &Blob, values: &[Value]) -> Result<Sources, SpecError>
+fn read_each_source(alloc: Global, path: &Blob, values: &[Value]) -> Result<Sources, FieldError>
     ensures { Gives (λ s. s) result (each next_source journal_named path.now 0 [] (items_view values.now)) }
 {
     let mut used = IndexSet::new(alloc);
@@ -149,19 +148,19 @@ fn read_each_source(alloc: Global, path: &Blob, values: &[Value]) -> Result<Sour
     Ok(Sources { sources })
 }
 
-#[tactic(auto, using(crate::proofs::Counts::count_view))]
-fn refuse_empty(path: &Blob, values: &[Value]) -> Result<(), SpecError>
+#[tactic(auto, using(gz_fields::proofs::Counts::count_view))]
+fn refuse_empty(path: &Blob, values: &[Value]) -> Result<(), FieldError>
     ensures { Gives (λ u. u) result (not_empty path.now (count (items_view values.now))) }
 {
     if values.len() == 0 {
-        return Err(SpecError::BadField { path: path.copy()? });
+        return Err(FieldError::BadField { path: path.copy()? });
     }
     Ok(())
 }
 
 /// The sources of the object: 1 to 16, no two of one journal.
 #[tactic(auto, unfolding(crate::specs::Shards::sources_at))]
-pub fn read_sources(alloc: Global, path: &Blob, value: &Value) -> Result<Sources, SpecError>
+pub fn read_sources(alloc: Global, path: &Blob, value: &Value) -> Result<Sources, FieldError>
     ensures { Gives (λ s. s) result (sources_at path.now (view value.now)) }
 {
     let values = read_items(alloc, path, value, "sources")?;

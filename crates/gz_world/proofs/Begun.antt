@@ -2,8 +2,9 @@
 use Rattle.std.proofs.Common.{◌≡◌, ℕ, ◌+◌, ◌<◌, ◌≤◌, ◌^◌, List, [], ◌∷◌, ◌++◌, suc, length, map, nat_le, refl, ap, drop, get_or, drop-cons, append_assoc, true, arith}
 use Rattle.std.specs.List.{list_all}
 use Rattle.std.proofs.lemmas.Grind.{common_steps}
-use Rattle.gz_spec.specs.Names.{is_journal_name}
-use Rattle.gz_spec.specs.Valid.{is_between, is_source, is_shard}
+use Rattle.gz_fields.specs.Names.{is_journal_name}
+use Rattle.gz_fields.specs.Form.{is_between}
+use Rattle.gz_spec.specs.Valid.{is_source, is_shard}
 use Rattle.gz_spec.specs.Records.{SourceSpec, ShardSpec}
 use Rattle.gz_plain.specs.declared.cluster.Definition.{Definition}
 use Rattle.gz_plain.specs.declared.cluster.Source.{Source}

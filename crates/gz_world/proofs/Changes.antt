@@ -1,19 +1,21 @@
 -- Journals and shards may change to those of specifications.
-use Rattle.std.proofs.Common.{◌≡◌, ℕ, ◌+◌, ◌<◌, ◌≤◌, ◌^◌, List, [], ◌∷◌, ◌++◌, length, take, drop, length-drop, ◌-◌, refl, sym, ap, ◌∙◌, subst, true, Result, Ok, Err, arith}
+use Rattle.std.proofs.Common.{◌≡◌, ℕ, ◌+◌, ◌<◌, ◌≤◌, ◌^◌, List, [], ◌∷◌, ◌++◌, length, take, drop, length-drop, ◌-◌, refl, sym, ap, ◌∙◌, subst, true, None, Result, Ok, Err, arith}
 use Rattle.std.specs.Prelude.{is_ok}
 use Rattle.std.proofs.lemmas.List.{take_all}
-use Rattle.gz_spec.specs.Links.{are_linked}
-use Rattle.gz_spec.specs.Specs.{whole}
+use Rattle.gz_links.specs.Cycles.{AreRanked, first_cycle}
+use Rattle.gz_links.specs.Links.{are_linked}
+use Rattle.gz_links.specs.Whole.{whole}
 use Rattle.gz_spec.specs.Valid.{are_specs}
 use Rattle.gz_spec.specs.Records.{Specs, JournalSpec}
-use Rattle.gz_spec.specs.declared.error.SpecError.{SpecError}
-use Rattle.gz_spec.proofs.Whole.{whole_good}
+use Rattle.gz_links.specs.declared.error.SpecError.{SpecError}
+use Rattle.gz_links.proofs.Whole.{whole_good, whole_is_ranked}
 use Rattle.gz_scenario.specs.Lawful.{is_start}
 use Rattle.gz_plain.specs.Cluster.{AreLinked, definitions_of as definitions_seen}
 use Rattle.gz_plain.specs.Definitions.{Definition}
 use Rattle.gz_plain.specs.Journals.{Journal}
 use Rattle.gz_plain.specs.Places.{names_of}
-use Rattle.gz_plain.specs.Runs.{Distinct, with_journals, continues, changes, MayHappen}
+use Rattle.gz_plain.specs.Runs.{with_journals, continues, changes, MayHappen}
+use Rattle.gz_promise.specs.Names.{Distinct}
 use Rattle.gz_plain.specs.Shards as shards
 use Rattle.gz_plain.specs.declared.cluster.Definition as declared
 use Rattle.gz_plain.proofs.Places.{names_empty}
@@ -81,17 +83,22 @@ may_happen specs names w valid linked named continued =
 
 -- ---- specifications that begin
 
--- they have nothing to refuse, and their shards are linked
+-- they have nothing to refuse, and their shards are linked, each before those that it feeds
 pub record AreWhole (specs : Specs) : Type 0 where
   pub valid : are_specs specs ≡ true
   pub linked : are_linked specs.journals specs.shards ≡ true
+  pub ranked : (rank : List ℕ → ℕ) × AreRanked rank specs.shards
 
-linked_if : (specs : Specs) (r : Result Specs SpecError) → whole specs ≡ r → is_ok r ≡ true → are_linked specs.journals specs.shards ≡ true
-linked_if specs (Ok out) is ok = let w = whole_good specs out is in subst (λ (s : Specs). are_linked s.journals s.shards ≡ true) (sym w.same) w.linked
-linked_if specs (Err e) is ok = absurd (cc)
+whole_if : (specs : Specs) (r : Result Specs SpecError) → are_specs specs ≡ true → whole specs ≡ r → is_ok r ≡ true → AreWhole specs
+whole_if specs (Ok out) valid is ok =
+    let w = whole_good specs out is in
+    let P : Specs → Type 0 = λ s. (are_linked s.journals s.shards ≡ true) × (first_cycle s.shards ≡ None) in
+    let both : P specs = subst P (sym w.same) (w.linked, w.acyclic) in
+    record { valid = valid; linked = both.0; ranked = whole_is_ranked specs valid both.1 }
+whole_if specs (Err e) valid is ok = absurd (cc)
 
 pub start_whole : (specs : Specs) → is_start specs ≡ true → AreWhole specs
 unfolding is_start
 start_whole specs good =
     let p = and_parts (are_specs specs) (is_ok (whole specs)) good in
-    record { valid = p.0; linked = linked_if specs (whole specs) refl p.1 }
+    whole_if specs (whole specs) p.0 refl p.1

@@ -2,7 +2,7 @@
 use Rattle.std.proofs.Common.{◌≡◌, ◌||◌, ℕ, List, [], ◌∷◌, map, refl, sym, ap, ◌∙◌, subst, Bool, true}
 use Rattle.std.specs.List.{list_all}
 use Rattle.std.specs.Str.{bytes_eq}
-use Rattle.gz_spec.specs.Links.{held, is_lines, is_log, is_readable, log_name, outputs_of, is_linked, are_linked}
+use Rattle.gz_links.specs.Links.{held, is_lines, is_log, is_readable, log_name, outputs_of, is_linked, are_linked}
 use Rattle.gz_spec.specs.Specs.{name_of_journal}
 use Rattle.gz_spec.specs.Valid.{is_shard}
 use Rattle.gz_spec.specs.Records.{Specs, JournalSpec, ShardSpec}
@@ -11,6 +11,7 @@ use Rattle.gz_plain.specs.Journals.{Journal, is_journal}
 use Rattle.gz_plain.specs.Places.{names_of}
 use Rattle.gz_plain.specs.Running.{journals_of}
 use Rattle.gz_plain.specs.Runs as plain
+use Rattle.gz_promise.specs.Names.{Distinct}
 use Rattle.gz_world.specs.Starts.{source_of, defined, in_id_order, names_of_journals, definitions_of}
 use Rattle.gz_world.proofs.Good.{and_parts}
 use Rattle.gz_world.proofs.Order.{Each, Shards, each_in_order}
@@ -20,7 +21,7 @@ use Rattle.gz_world.proofs.Outputs.{distinct_outputs, are_present, sources_prese
 
 -- a shard's sources and outputs are journals, and it names no output twice
 record IsDefined (js : List JournalSpec) (s : ShardSpec) : Type 0 where
-  distinct : plain.Distinct (outputs_of s)
+  distinct : Distinct (outputs_of s)
   outputs : plain.ArePresent (outputs_of s) (plain.all_empty (map name_of_journal js))
   sources : plain.ArePresent (journals_of (map source_of s.sources)) (plain.all_empty (map name_of_journal js))
 

@@ -1,5 +1,5 @@
 -- What the events of a run do: its journals and shards stay tied to its specifications.
-use Rattle.std.proofs.Common.{◌≡◌, ℕ, zero, suc, ◌+◌, ◌<◌, ◌≤◌, ◌^◌, ◌&&◌, List, [], ◌∷◌, length, nat_le, refl, subst, cond, All, Bool, true, false, Result, Ok, Err, arith}
+use Rattle.std.proofs.Common.{◌≡◌, ℕ, zero, suc, ◌+◌, ◌<◌, ◌≤◌, ◌^◌, ◌&&◌, List, [], ◌∷◌, length, nat_le, refl, subst, cond, All, Bool, true, false, Option, Some, None, Result, Ok, Err, arith}
 use Rattle.std.specs.List.{list_all}
 use Rattle.std.proofs.lemmas.Bool.{and_parts, and_from}
 use Rattle.std.proofs.lemmas.Grind.{common_steps}
@@ -7,11 +7,11 @@ use Rattle.gz_model.specs.Steps.{◌>>=◌}
 use Rattle.gz_uuid.specs.Producer.{AreProducer, client_octets}
 use Rattle.gz_frame.specs.Messages.{max_key, max_value, is_text_within, ack_txn}
 use Rattle.gz_frame.proofs.Lines.{lawful_line_reads_back}
-use Rattle.gz_spec.specs.Names.{is_id, is_journal_name}
-use Rattle.gz_spec.specs.Joins.{join_of}
+use Rattle.gz_fields.specs.Names.{is_id, is_journal_name}
+use Rattle.gz_links.specs.Joins.{join_of}
 use Rattle.gz_spec.specs.Valid.{are_specs}
 use Rattle.gz_spec.specs.Records.{Specs}
-use Rattle.gz_spec.specs.declared.error.SpecError.{SpecError}
+use Rattle.gz_links.specs.declared.error.SpecError.{SpecError}
 use Rattle.gz_registry.specs.Registered.{Registered, put_answer}
 use Rattle.gz_registry.specs.declared.error.RegistryError.{RegistryError}
 use Rattle.gz_scenario.specs.Events.{event_of, max_clock, max_producer}
@@ -25,12 +25,15 @@ use Rattle.gz_scenario.specs.declared.event.Draft.{Draft}
 use Rattle.gz_scenario.specs.declared.event.Publish.{Publish as Published}
 use Rattle.gz_scenario.specs.declared.event.Event.{Event}
 use Rattle.gz_scenario.specs.declared.event.Event.TheVariants.{Specs as Begins, Publish, Settle, Apply, Join as Joins, Expire}
+use Rattle.gz_client.specs.Answers.{stands}
+use Rattle.gz_client.specs.Contents.{flags_of, message_at, messages_at, messages_of, content_of}
+use Rattle.gz_client.specs.Requests.{request_of}
+use Rattle.gz_client.specs.declared.answer.Answer.{Answer}
+use Rattle.gz_plain.specs.Journals.{appended}
 use Rattle.gz_plain.specs.Runs as plain
 use Rattle.gz_plain.specs.Shards as shards
-use Rattle.gz_world.specs.declared.reply.Answer.{Answer}
-use Rattle.gz_world.specs.declared.reply.Answer.TheVariants.{Landed, TooLarge, NotFramed}
 use Rattle.gz_world.specs.declared.reply.Reason.{Reason}
-use Rattle.gz_world.specs.Worlds.{World, flags_of, message_at, messages_at, content_of, judged_publish, landed, published, registered, judged_joined, with_specs, judged_join, judged_expire, with_registry, after}
+use Rattle.gz_world.specs.Worlds.{World, answer_to, with_landed, reason_of, told_of, published, registered, judged_joined, with_specs, judged_join, judged_expire, with_registry, after}
 use Rattle.gz_world.specs.Run.{max_input, judged, run}
 use Rattle.gz_world.proofs.Ready.{apply_valid, landed_specified, settled_specified}
 use Rattle.gz_world.proofs.Tied.{IsTied, happens, with_tied}
@@ -93,18 +96,24 @@ drafts_of p lawful =
 
 -- ---- one event
 
-landed_tied : (specs : Specs) (w : shards.World) (answer : Answer) (p : Published) → list_all is_draft p.messages ≡ true → IsTied specs w
-    → IsTied specs (record w { journals = landed answer p.journal (content_of p) w.journals })
-landed_tied specs w (Landed begin end) p drafts t =
-    happens specs specs w (plain.lands p.journal (messages_at (client_octets p.producer) p.messages)) t (are_clients p.producer p.messages drafts)
-    (landed_specified specs w (Landed begin end) p.journal (content_of p) t.specified) t.ranked
-landed_tied specs w TooLarge p drafts t = record { specified = t.specified; ranked = t.ranked; happened = t.happened; may = t.may; reached = t.reached }
-landed_tied specs w NotFramed p drafts t = record { specified = t.specified; ranked = t.ranked; happened = t.happened; may = t.may; reached = t.reached }
+landed_tied : (specs : Specs) (w : shards.World) (p : Published) (b : Bool) → list_all is_draft p.messages ≡ true → IsTied specs w
+    → IsTied specs (record w { journals = cond b (appended p.journal (content_of p) w.journals) w.journals })
+landed_tied specs w p true drafts t =
+    happens specs specs w (plain.lands p.journal (messages_of p)) t (are_clients p.producer p.messages drafts)
+    (landed_specified specs w true p.journal (content_of p) t.specified) t.ranked
+landed_tied specs w p false drafts t = record { specified = t.specified; ranked = t.ranked; happened = t.happened; may = t.may; reached = t.reached }
 
-publish_tied : (line : ℕ) (p : Published) (w : World) (r : Result Answer Reason) → list_all is_draft p.messages ≡ true → IsTied w.specs w.cluster
-    → IsTied (published line p w r).specs (published line p w r).cluster
-publish_tied line p w (Ok answer) drafts t = landed_tied w.specs w.cluster answer p drafts t
-publish_tied line p w (Err reason) drafts t = t
+told_tied : (o : Option Reason) (line : ℕ) (name : List ℕ) (answer : Answer) (w : World) → IsTied w.specs w.cluster
+    → IsTied (told_of o line name answer w).specs (told_of o line name answer w).cluster
+told_tied None line name answer w t = t
+told_tied (Some reason) line name answer w t = t
+
+publish_tied : (line : ℕ) (p : Published) (w : World) → list_all is_draft p.messages ≡ true → IsTied w.specs w.cluster
+    → IsTied (published line p w).specs (published line p w).cluster
+publish_tied line p w drafts t =
+    let r = request_of line p in
+    let answer = answer_to r p w in
+    told_tied (reason_of answer) line p.client answer (with_landed answer r p w) (landed_tied w.specs w.cluster p (stands answer) drafts t)
 
 settle_tied : (specs : Specs) (w : shards.World) → IsTied specs w → IsTied specs (shards.settled w)
 settle_tied specs w t = happens specs specs w plain.settles t tt (settled_specified specs w t.specified) t.ranked
@@ -123,9 +132,13 @@ registry_tied : (line : ℕ) (w : World) (r : Result Registered Reason) → IsTi
 registry_tied line w (Ok registry) t = t
 registry_tied line w (Err reason) t = t
 
-event_tied : (line : ℕ) (e : Event) (w : World) → is_event e ≡ true → IsTied w.specs w.cluster → IsTied (after line e w).specs (after line e w).cluster
+-- the journals and shards are those of the specifications
+abbrev pub IsRunning : World → Type 0
+IsRunning w = IsTied w.specs w.cluster
+
+pub event_tied : (line : ℕ) (e : Event) (w : World) → is_event e ≡ true → IsRunning w → IsRunning (after line e w)
 event_tied line (Begins specs) w lawful t = t
-event_tied line (Publish p) w lawful t = publish_tied line p w (judged_publish w p) (drafts_of p lawful) t
+event_tied line (Publish p) w lawful t = publish_tied line p w (drafts_of p lawful) t
 event_tied line Settle w lawful t = settle_tied w.specs w.cluster t
 event_tied line (Apply more) w lawful t = join_tied line more w (join_of w.specs more) (apply_valid more lawful) refl t
 event_tied line (Joins j) w lawful t = registry_tied line w (judged_join w j) t
@@ -141,21 +154,6 @@ step (Err e) f b is = absurd (cc)
 pub same_ok : {A : Type 0} (a b : A) → (let r : Result A ScenarioError = Ok a in r ≡ Ok b) → a ≡ b
 same_ok a b is = cc
 
-passed : {A : Type 0} (t : Bool) (r : Result A ScenarioError) (e : ScenarioError) (a : A) → cond t r (Err e) ≡ Ok a → r ≡ Ok a
+pub passed : {A : Type 0} (t : Bool) (r : Result A ScenarioError) (e : ScenarioError) (a : A) → cond t r (Err e) ≡ Ok a → r ≡ Ok a
 passed true r e a is = is
 passed false r e a is = absurd (cc)
-
-abbrev pub IsRun : World → Type 0
-IsRun w = IsTied w.specs w.cluster
-
-line_tied : (number before : ℕ) (line : List ℕ) (w u : World) → judged number before line w ≡ Ok u → IsRun w → IsRun u
-line_tied number before line w u is t =
-    let said = passed (nat_le (before + length line) max_input) (event_of number line >>= λ e. Ok (after number e w)) (Limit number) u is in
-    let s = step (event_of number line) (λ e. Ok (after number e w)) u said in
-    subst (λ (x : World). IsRun x) (same_ok (after number s.0 w) u s.2) (event_tied number s.0 w (event_good number line s.0 s.1) t)
-
-pub run_tied : (lines : List (List ℕ)) (number before : ℕ) (w v : World) → run lines number before w ≡ Ok v → IsRun w → IsRun v
-run_tied [] number before w v is t = subst (λ (x : World). IsRun x) (same_ok w v is) t
-run_tied (line ∷ lines) number before w v is t =
-    let s = step (judged number before line w) (λ next. run lines (number + 1) (before + length line) next) v is in
-    run_tied lines (number + 1) (before + length line) s.0 v s.2 (line_tied number before line w s.0 s.1 t)

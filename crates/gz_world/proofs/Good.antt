@@ -5,7 +5,7 @@ use Rattle.std.proofs.lemmas.Grind.{common_steps}
 use Rattle.gz_spec.specs.Specs.{name_of_journal, id_of_shard, id_of_member}
 use Rattle.gz_spec.specs.Valid.{are_fresh, is_journal, is_shard, are_journals, are_shards, are_members, are_specs}
 use Rattle.gz_spec.specs.Records.{Specs, ShardSpec}
-use Rattle.gz_plain.specs.Runs.{Distinct}
+use Rattle.gz_promise.specs.Names.{Distinct}
 use Rattle.gz_world.specs.Starts.{definitions_of}
 use Rattle.gz_world.proofs.Used.{distinct_fresh}
 use Rattle.gz_world.proofs.Wired.{definitions_count}

@@ -7,7 +7,7 @@ use Rattle.std.specs.Cmp.Lexicographic.{slice_cmp}
 use Rattle.std.specs.BTreeMap.{insert_entry}
 use Rattle.std.proofs.lemmas.Map.Text.{is_eq-slice_cmp}
 use Rattle.std.proofs.lemmas.Slice.Eq.{bytes_eq-Decides}
-use Rattle.gz_spec.specs.Joins.{joined}
+use Rattle.gz_links.specs.Joins.{joined}
 use Rattle.gz_spec.specs.Specs.{id_of_shard}
 use Rattle.gz_spec.specs.Records.{ShardSpec}
 use Rattle.gz_plain.specs.Definitions.{Definition, definition_of}

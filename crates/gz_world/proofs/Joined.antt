@@ -3,11 +3,13 @@ use Rattle.std.proofs.Common.{◌≡◌, ℕ, List, [], ◌∷◌, ◌++◌, map
 use Rattle.std.specs.Prelude.{length, unwrap_or, codes}
 use Rattle.std.specs.Str.{bytes_eq}
 use Rattle.std.proofs.lemmas.Slice.Eq.{bytes_eq-Decides}
-use Rattle.gz_spec.specs.Joins.{named_in, replaced, is_new, joined, contents_kept, both_of, join_of}
-use Rattle.gz_spec.specs.Lists.{no_more_than}
+use Rattle.gz_links.specs.Joins.{named_in, replaced, is_new, joined, contents_kept, both_of, join_of}
+use Rattle.gz_fields.specs.Lists.{no_more_than}
+use Rattle.gz_links.specs.Outcomes.{of_fields}
+use Rattle.gz_spec.specs.Limits.{max_journals, max_shards}
 use Rattle.gz_spec.specs.Records.{Specs}
-use Rattle.gz_spec.proofs.Readable.{step}
-use Rattle.gz_spec.proofs.Whole.{whole_good}
+use Rattle.gz_fields.proofs.Readable.{step}
+use Rattle.gz_links.proofs.Whole.{whole_good}
 
 same_thing : {A : Type 0} (a b : A) → (let o : Option A = Some a in o ≡ Some b) → a ≡ b
 same_thing a b is = cc
@@ -50,7 +52,7 @@ pub join_is_both : (specs more all : Specs) → join_of specs more ≡ Ok all �
 unfolding join_of
 join_is_both specs more all is =
     let both = both_of specs more in
-    let kept = step (contents_kept specs.journals 0 more.journals) _ all is in
-    let js = step (no_more_than 1024 (codes "journals") (length both.journals)) _ all kept.2 in
-    let ss = step (no_more_than 256 (codes "shards") (length both.shards)) _ all js.2 in
+    let kept = step (of_fields (contents_kept specs.journals 0 more.journals)) _ all is in
+    let js = step (of_fields (no_more_than max_journals (codes "journals") (length both.journals))) _ all kept.2 in
+    let ss = step (of_fields (no_more_than max_shards (codes "shards") (length both.shards))) _ all js.2 in
     sym (whole_good both all ss.2).same

@@ -13,5 +13,6 @@ pub mod Tied
 pub mod Texts
 pub mod Lines
 pub mod Events
+pub mod Happened
 pub mod Runs
 pub mod Promises

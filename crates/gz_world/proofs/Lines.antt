@@ -6,12 +6,12 @@ use Rattle.std.proofs.lemmas.Grind.{common_steps}
 use Rattle.serde_json.specs.Data.{Data}
 use Rattle.serde_json.specs.Find.{get, as_str}
 use Rattle.gz_json.specs.Json.{json_of}
-use Rattle.gz_spec.specs.Specs.{specs_of}
+use Rattle.gz_links.specs.Whole.{specs_of}
 use Rattle.gz_spec.specs.Records.{Specs as SpecLists}
-use Rattle.gz_spec.specs.declared.error.SpecError.{SpecError}
+use Rattle.gz_links.specs.declared.error.SpecError.{SpecError}
 use Rattle.gz_scenario.specs.Events.{event_of, event_in, event_if, max_lines, max_line}
 use Rattle.gz_scenario.specs.Outcomes as scenario
-use Rattle.gz_scenario.specs.Refusals.{on_line}
+use Rattle.gz_scenario.specs.Refusals.{specs_on_line}
 use Rattle.gz_scenario.specs.declared.error.ScenarioError.{ScenarioError}
 use Rattle.gz_scenario.specs.declared.error.ScenarioError.TheVariants.{Limit, NotJson, Unknown, BadField, NoMemory}
 use Rattle.gz_scenario.specs.declared.event.Event.{Event}
@@ -55,13 +55,13 @@ within_lines number line e is =
 
 -- ---- the first line
 
-line_said : (r : Result SpecLists SpecError) (specs : SpecLists) → on_line 1 Specs r ≡ Ok (Specs specs) → r ≡ Ok specs
+line_said : (r : Result SpecLists SpecError) (specs : SpecLists) → specs_on_line 1 Specs r ≡ Ok (Specs specs) → r ≡ Ok specs
 line_said (Ok lists) specs is = cc
 line_said (Err e) specs is = absurd (cc)
 
 verb_said : (line : List ℕ) (d : Data) (verb : Option (List ℕ)) (specs : SpecLists) → event_if 1 line d verb ≡ Ok (Specs specs) → specs_of line ≡ Ok specs
 verb_said line d None specs is = absurd (cc)
-verb_said line d (Some verb) specs is = line_said (specs_of line) specs (chosen (bytes_eq verb (codes "specs")) (on_line 1 Specs (specs_of line)) (Unknown 1) (Specs specs) is).1
+verb_said line d (Some verb) specs is = line_said (specs_of line) specs (chosen (bytes_eq verb (codes "specs")) (specs_on_line 1 Specs (specs_of line)) (Unknown 1) (Specs specs) is).1
 
 value_said : (line : List ℕ) (d : Option Data) (specs : SpecLists) → event_in 1 line d ≡ Ok (Specs specs) → specs_of line ≡ Ok specs
 value_said line None specs is = absurd (cc)

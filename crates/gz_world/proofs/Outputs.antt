@@ -8,16 +8,20 @@ use Rattle.std.proofs.lemmas.Slice.Eq.{bytes_eq-Decides}
 use Rattle.gz_label.specs.declared.label.Label.{Label}
 use Rattle.gz_label.specs.Labels.{label_cmp, comes_before, are_rising, is_label_set, labels_named}
 use Rattle.gz_label.proofs.Sets.{label_total, less, rising_of_set, is_label_set-filter}
-use Rattle.gz_spec.specs.Links.{held, framing_in, is_lines, is_readable, outputs_of}
-use Rattle.gz_spec.specs.Names.{is_id, is_journal_name, is_hint_prefix}
+use Rattle.gz_links.specs.Links.{held, is_lines, is_readable, outputs_of}
+use Rattle.gz_spec.specs.Framings.{framing_in}
+use Rattle.gz_fields.specs.Names.{is_id, is_journal_name}
+use Rattle.gz_spec.specs.Reserved.{is_hint_prefix}
 use Rattle.gz_spec.specs.Specs.{name_of_journal}
-use Rattle.gz_spec.specs.Valid.{is_between, are_sources, are_shard_labels, is_shard}
+use Rattle.gz_fields.specs.Form.{is_between}
+use Rattle.gz_spec.specs.Valid.{are_sources, are_shard_labels, is_shard}
 use Rattle.gz_spec.specs.declared.framing.Framing.{Framing}
 use Rattle.gz_spec.specs.Records.{JournalSpec, SourceSpec, ShardSpec}
 use Rattle.gz_plain.specs.Journals.{is_journal}
-use Rattle.gz_plain.specs.Order.{Apart}
+use Rattle.gz_promise.specs.Names.{Apart}
 use Rattle.gz_plain.specs.Running.{journals_of}
-use Rattle.gz_plain.specs.Runs.{Distinct, ArePresent, all_empty}
+use Rattle.gz_plain.specs.Runs.{ArePresent, all_empty}
+use Rattle.gz_promise.specs.Names.{Distinct}
 use Rattle.gz_plain.proofs.Starts.{unequal}
 use Rattle.gz_world.specs.Starts.{source_of}
 

@@ -1,29 +1,21 @@
 -- A world stays as its specifications say, whatever event comes.
-use Rattle.std.proofs.Common.{◌≡◌, ◌&&◌, ◌==◌, ℕ, suc, ◌≤◌, List, [], ◌∷◌, ◌++◌, length, map, filter, drop, refl, sym, ap, ◌∙◌, subst, true, Result, Ok, Err, arith}
-use Rattle.gz_spec.specs.Joins.{replaced, is_new, joined, join_of}
-use Rattle.gz_spec.specs.Links.{are_linked}
+use Rattle.std.proofs.Common.{◌≡◌, ◌&&◌, ◌==◌, ℕ, suc, ◌≤◌, List, [], ◌∷◌, ◌++◌, length, map, filter, drop, refl, sym, ap, ◌∙◌, subst, cond, Bool, true, false, Result, Ok, Err, arith}
+use Rattle.gz_links.specs.Joins.{replaced, is_new, joined, join_of}
+use Rattle.gz_links.specs.Links.{are_linked}
 use Rattle.gz_spec.specs.Specs.{name_of_journal}
 use Rattle.gz_spec.specs.Valid.{are_specs}
 use Rattle.gz_spec.specs.Records.{Specs}
-use Rattle.gz_spec.specs.declared.error.SpecError.{SpecError}
-use Rattle.gz_spec.proofs.Joining.{join_is_valid, join_is_linked}
-use Rattle.gz_scenario.specs.Lawful.{is_start, is_apply, is_event}
-use Rattle.gz_scenario.specs.declared.event.Publish.{Publish as Published}
-use Rattle.gz_scenario.specs.declared.event.Event.{Event}
-use Rattle.gz_scenario.specs.declared.event.Event.TheVariants.{Specs as Begins, Publish, Settle, Apply, Join as Joins, Expire}
-use Rattle.gz_registry.specs.Registered.{Registered, put_answer}
-use Rattle.gz_registry.specs.declared.error.RegistryError.{RegistryError}
+use Rattle.gz_links.specs.declared.error.SpecError.{SpecError}
+use Rattle.gz_links.proofs.Joining.{join_is_valid, join_is_linked}
+use Rattle.gz_scenario.specs.Lawful.{is_start, is_apply}
 use Rattle.gz_plain.specs.Definitions.{Definition, definition_of}
+use Rattle.gz_plain.specs.Journals.{appended}
 use Rattle.gz_plain.specs.Places.{names_of}
 use Rattle.gz_plain.specs.Runs.{continues, nothing, changed}
 use Rattle.gz_plain.specs.Shards as shards
 use Rattle.gz_plain.proofs.Changes.{definitions_changed}
 use Rattle.gz_plain.proofs.Stays.{names_appended, names_changed, names_settled, definitions_settled}
-use Rattle.gz_world.specs.declared.reply.Answer.{Answer}
-use Rattle.gz_world.specs.declared.reply.Answer.TheVariants.{Landed, TooLarge, NotFramed}
-use Rattle.gz_world.specs.declared.reply.Reason.{Reason}
 use Rattle.gz_world.specs.Starts.{IsSpecified, names_of_journals, new_journals, definitions_of, cluster_start, cluster_with}
-use Rattle.gz_world.specs.Worlds.{World, content_of, landed, published, judged_publish, registered, judged_joined, with_specs, judged_join, judged_expire, with_registry, after}
 use Rattle.gz_world.proofs.Changes.{start_whole}
 use Rattle.gz_world.proofs.Good.{and_parts, are_good, few_definitions}
 use Rattle.gz_world.proofs.Ids.{continues_joined}
@@ -132,36 +124,10 @@ join_changes specs more all w t good is = record {
 
 -- ---- events
 
-pub landed_specified : (specs : Specs) (w : shards.World) (answer : Answer) (name text : List ℕ) → IsSpecified specs w → IsSpecified specs (record w { journals = landed answer name text w.journals })
-landed_specified specs w (Landed begin end) name text t = record { valid = t.valid; names = names_appended name text w.journals ∙ t.names; said = t.said }
-landed_specified specs w TooLarge name text t = record { valid = t.valid; names = t.names; said = t.said }
-landed_specified specs w NotFramed name text t = record { valid = t.valid; names = t.names; said = t.said }
-
-published_specified : (line : ℕ) (p : Published) (w : World) (r : Result Answer Reason) → IsSpecified w.specs w.cluster → IsSpecified (published line p w r).specs (published line p w r).cluster
-published_specified line p w (Ok answer) t = landed_specified w.specs w.cluster answer p.journal (content_of p) t
-published_specified line p w (Err reason) t = t
+pub landed_specified : (specs : Specs) (w : shards.World) (b : Bool) (name content : List ℕ) → IsSpecified specs w
+    → IsSpecified specs (record w { journals = cond b (appended name content w.journals) w.journals })
+landed_specified specs w true name content t = record { valid = t.valid; names = names_appended name content w.journals ∙ t.names; said = t.said }
+landed_specified specs w false name content t = record { valid = t.valid; names = t.names; said = t.said }
 
 pub settled_specified : (specs : Specs) (w : shards.World) → IsSpecified specs w → IsSpecified specs (shards.settled w)
 settled_specified specs w t = record { valid = t.valid; names = names_settled w ∙ t.names; said = definitions_settled w ∙ t.said }
-
-added_specified : (line : ℕ) (more all : Specs) (w : World) (r : Result ℕ RegistryError) → are_specs more ≡ true → join_of w.specs more ≡ Ok all → IsSpecified w.specs w.cluster
-    → IsSpecified (with_specs line more w (registered all r)).specs (with_specs line more w (registered all r)).cluster
-added_specified line more all w (Ok revision) good is t = with_specified w.specs more all w.cluster t good is
-added_specified line more all w (Err e) good is t = t
-
-specs_specified : (line : ℕ) (more : Specs) (w : World) (r : Result Specs SpecError) → are_specs more ≡ true → join_of w.specs more ≡ r → IsSpecified w.specs w.cluster
-    → IsSpecified (with_specs line more w (judged_joined more w r)).specs (with_specs line more w (judged_joined more w r)).cluster
-specs_specified line more w (Ok all) good is t = added_specified line more all w (put_answer more w.registry) good is t
-specs_specified line more w (Err e) good is t = t
-
-registry_specified : (line : ℕ) (w : World) (r : Result Registered Reason) → IsSpecified w.specs w.cluster → IsSpecified (with_registry line w r).specs (with_registry line w r).cluster
-registry_specified line w (Ok registry) t = t
-registry_specified line w (Err reason) t = t
-
-pub after_specified : (line : ℕ) (e : Event) (w : World) → is_event e ≡ true → IsSpecified w.specs w.cluster → IsSpecified (after line e w).specs (after line e w).cluster
-after_specified line (Begins specs) w lawful t = t
-after_specified line (Publish p) w lawful t = published_specified line p w (judged_publish w p) t
-after_specified line Settle w lawful t = settled_specified w.specs w.cluster t
-after_specified line (Apply more) w lawful t = specs_specified line more w (join_of w.specs more) (apply_valid more lawful) refl t
-after_specified line (Joins j) w lawful t = registry_specified line w (judged_join w j) t
-after_specified line (Expire name) w lawful t = registry_specified line w (judged_expire w name) t

@@ -1,18 +1,17 @@
 -- The journals and shards of a run's world are those that its specifications say, and lawful happenings made them.
 use Rattle.std.proofs.Common.{◌≡◌, ℕ, List, [], ◌∷◌, ◌++◌, sym, ap, ◌∙◌, subst, refl, true, Ok}
-use Rattle.gz_spec.specs.Cycles.{AreRanked}
-use Rattle.gz_spec.specs.Joins.{join_of}
-use Rattle.gz_spec.specs.Specs.{specs_of}
+use Rattle.gz_links.specs.Cycles.{AreRanked}
+use Rattle.gz_links.specs.Joins.{join_of}
 use Rattle.gz_spec.specs.Valid.{are_specs}
 use Rattle.gz_spec.specs.Records.{Specs}
-use Rattle.gz_spec.proofs.Joining.{join_is_linked, join_is_ranked}
-use Rattle.gz_spec.proofs.Whole.{read_is_valid, read_is_linked, read_is_ranked}
+use Rattle.gz_links.proofs.Joining.{join_is_linked, join_is_ranked}
+use Rattle.gz_scenario.specs.Lawful.{is_start}
 use Rattle.gz_plain.specs.Definitions.{Definition}
 use Rattle.gz_plain.specs.Runs.{Event, MayHappen, MayAllHappen, continues, changes, nothing, after_event, after_events}
 use Rattle.gz_plain.specs.Shards.{World}
 use Rattle.gz_plain.proofs.Promises.{after_more, may_all_more}
 use Rattle.gz_world.specs.Starts.{IsSpecified, names_of_journals, new_journals, definitions_of, cluster_start, cluster_with}
-use Rattle.gz_world.proofs.Changes.{may_happen}
+use Rattle.gz_world.proofs.Changes.{may_happen, start_whole}
 use Rattle.gz_world.proofs.Ready.{cluster_specified, names_joined, shards_continue, with_specified}
 
 pub record IsTied (specs : Specs) (w : World) : Type 0 where
@@ -42,16 +41,16 @@ none_continued : (ds : List Definition) → continues ds [] ≡ true
 none_continued [] = refl
 none_continued (d ∷ ds) = refl
 
-pub start_tied : (bytes : List ℕ) (specs : Specs) → specs_of bytes ≡ Ok specs → IsTied specs (cluster_start specs)
-start_tied bytes specs read =
-    let valid = read_is_valid bytes specs read in
+pub start_tied : (specs : Specs) → is_start specs ≡ true → IsTied specs (cluster_start specs)
+start_tied specs good =
+    let whole = start_whole specs good in
     let names = names_of_journals specs.journals in
     let ds = definitions_of specs.shards in
     record {
-      specified = cluster_specified specs valid;
-      ranked = read_is_ranked bytes specs read;
+      specified = cluster_specified specs whole.valid;
+      ranked = whole.ranked;
       happened = changes names ds ∷ [];
-      may = (may_happen specs names nothing valid (read_is_linked bytes specs read) refl (none_continued ds), tt);
+      may = (may_happen specs names nothing whole.valid whole.linked refl (none_continued ds), tt);
       reached = refl;
     }
 

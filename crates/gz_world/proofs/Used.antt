@@ -2,12 +2,12 @@
 use Rattle.std.proofs.Common.{◌≡◌, ◌&&◌, ◌||◌, ℕ, List, [], ◌∷◌, ◌++◌, map, refl, sym, ap, ◌∙◌, not, Bool, true, false}
 use Rattle.std.specs.Str.{bytes_eq}
 use Rattle.std.proofs.lemmas.Slice.Eq.{bytes_eq-Decides}
-use Rattle.gz_spec.specs.Lists.{is_used}
+use Rattle.gz_fields.specs.Lists.{is_used}
 use Rattle.gz_spec.specs.Specs.{name_of_journal}
 use Rattle.gz_spec.specs.Valid.{are_fresh}
 use Rattle.gz_spec.specs.Records.{JournalSpec}
-use Rattle.gz_plain.specs.Order.{Apart}
-use Rattle.gz_plain.specs.Runs.{Distinct}
+use Rattle.gz_promise.specs.Names.{Apart}
+use Rattle.gz_promise.specs.Names.{Distinct}
 use Rattle.gz_plain.proofs.Starts.{unequal}
 
 pub not_parts : (a b : Bool) → (not a && b) ≡ true → (a ≡ false) × (b ≡ true)

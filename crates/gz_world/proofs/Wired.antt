@@ -8,15 +8,16 @@ use Rattle.std.specs.Cmp.Lexicographic.{slice_cmp}
 use Rattle.std.specs.BTreeMap.{insert_entry}
 use Rattle.std.proofs.lemmas.Map.Text.{is_eq-slice_cmp}
 use Rattle.std.proofs.lemmas.Slice.Eq.{bytes_eq-Decides}
-use Rattle.gz_spec.specs.Cycles.{feeds, AreRanked}
-use Rattle.gz_spec.specs.Links.{outputs_of}
-use Rattle.gz_spec.specs.Lists.{is_used}
+use Rattle.gz_links.specs.Cycles.{feeds, AreRanked}
+use Rattle.gz_links.specs.Links.{outputs_of}
+use Rattle.gz_fields.specs.Lists.{is_used}
 use Rattle.gz_spec.specs.Specs.{id_of_shard}
 use Rattle.gz_spec.specs.Valid.{are_fresh}
 use Rattle.gz_spec.specs.Records.{SourceSpec, ShardSpec}
 use Rattle.gz_plain.specs.Definitions as plain
 use Rattle.gz_plain.specs.Definitions.{Definition}
-use Rattle.gz_plain.specs.Order.{Wiring, wiring_of, wirings_of, Apart, IsBeside, AreBefore, AllBefore, AllBelow, AreInOrder}
+use Rattle.gz_plain.specs.Order.{Wiring, wiring_of, wirings_of, IsBeside, AreBefore, AllBefore, AllBelow, AreInOrder}
+use Rattle.gz_promise.specs.Names.{Apart}
 use Rattle.gz_plain.specs.Shards.{Shard}
 use Rattle.gz_plain.proofs.Starts.{unequal}
 use Rattle.gz_world.specs.Starts.{source_of, definition_of, defined, put_shards, in_id_order, definitions_of}

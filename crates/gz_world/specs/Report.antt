@@ -4,16 +4,15 @@ use Rattle.std.specs.Fmt.{decimal}
 use Rattle.std.specs.Ordering.{nat_cmp}
 use Rattle.std.specs.Cmp.Lexicographic.{slice_cmp}
 use Rattle.std.specs.BTreeMap.{insert_entry}
-use Rattle.gz_spec.specs.Links.{framing_in}
+use Rattle.gz_spec.specs.Framings.{framing_in}
 use Rattle.gz_spec.specs.declared.framing.Framing.{Framing}
 use Rattle.gz_spec.specs.declared.framing.Framing.TheVariants.{Lines, FixedFrames, RecoveryLog, Bytes}
 use Rattle.gz_spec.specs.Records.{JournalSpec}
+use Rattle.gz_client.specs.Answers.{answer_text}
 use Rattle.gz_plain.specs.Journals.{Journal, text_of}
 use Rattle.gz_plain.specs.Reports as plain
 use Rattle.gz_plain.specs.Shards as shards
 use Rattle.gz_plain.specs.declared.report.ShardReport.{ShardReport}
-use Rattle.gz_world.specs.declared.reply.Answer.{Answer}
-use Rattle.gz_world.specs.declared.reply.Answer.TheVariants.{Landed, TooLarge, NotFramed}
 use Rattle.gz_world.specs.declared.reply.Reason.{Reason}
 use Rattle.gz_world.specs.declared.reply.Reason.TheVariants.{NameUsed, NoRoute, BadSpecs, MembersFull, NoMember, KeysEnd}
 use Rattle.gz_world.specs.declared.reply.Told.{Told}
@@ -21,11 +20,6 @@ use Rattle.gz_world.specs.declared.reply.Told.TheVariants.{Replied, Refused}
 use Rattle.gz_world.specs.Worlds.{World}
 
 -- ---- what was told
-
-abbrev pub answer_text : Answer → List ℕ
-answer_text (Landed begin end) = codes "ok " ++ (decimal begin ++ (codes " " ++ decimal end))
-answer_text TooLarge = codes "too large 1048576"
-answer_text NotFramed = codes "not framed"
 
 abbrev pub reason_text : Reason → List ℕ
 reason_text NameUsed = codes "name used"

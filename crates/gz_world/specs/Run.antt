@@ -1,5 +1,5 @@
 -- A run: the lines of an input, one after another.
-use Rattle.std.specs.Prelude.{ℕ, ◌+◌, List, [], ◌∷◌, ◌++◌, length, Option, Some, None, Result, Ok, Err, if◌then◌else◌, nat_le, codes}
+use Rattle.std.specs.Prelude.{◌≡◌, ℕ, ◌+◌, List, [], ◌∷◌, ◌++◌, length, Option, Some, None, Result, Ok, Err, if◌then◌else◌, nat_le, codes, ⊤}
 use Rattle.gz_model.specs.Lines.{lines_of}
 use Rattle.gz_model.specs.Steps.{◌>>=◌}
 use Rattle.gz_scenario.specs.Events.{event_of}
@@ -43,6 +43,18 @@ outcome_from (line ∷ lines) = judged_first line >>= λ w. run lines 2 (length 
 
 abbrev pub outcome_of : List ℕ → Result (Option World) ScenarioError
 outcome_of input = outcome_from (lines_of input)
+
+-- each line, the first of which has the number, says the event beside it
+abbrev pub AreSaid : ℕ → List (List ℕ) → List (ℕ × Event) → Type 0
+AreSaid number [] [] = ⊤
+AreSaid number [] (h ∷ hs) = ⊥
+AreSaid number (line ∷ lines) [] = ⊥
+AreSaid number (line ∷ lines) (h ∷ hs) = (h.0 ≡ number) × (event_of number line ≡ Ok h.1) × AreSaid (number + 1) lines hs
+
+-- the first line says the specifications that a world began with, and the others its events
+abbrev pub IsSaid : List (List ℕ) → World → Type 0
+IsSaid [] w = ⊥
+IsSaid (line ∷ lines) w = (event_of 1 line ≡ Ok (Specs w.begun)) × AreSaid 2 lines w.events
 
 -- what is said of a refused line
 abbrev pub refusal_line : ScenarioError → List ℕ

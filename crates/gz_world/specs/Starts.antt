@@ -4,11 +4,9 @@ use Rattle.std.specs.Ordering.{nat_cmp}
 use Rattle.std.specs.Cmp.Lexicographic.{slice_cmp}
 use Rattle.std.specs.BTreeMap.{insert_entry}
 use Rattle.gz_label.specs.Labels.{values_of}
-use Rattle.gz_spec.specs.declared.app.App.{App}
-use Rattle.gz_spec.specs.declared.app.App.TheVariants as spec
 use Rattle.gz_spec.specs.Records.{JournalSpec, SourceSpec, ShardSpec, Specs}
-use Rattle.gz_spec.specs.Joins.{is_new}
-use Rattle.gz_spec.specs.Links.{outputs_of}
+use Rattle.gz_links.specs.Joins.{is_new}
+use Rattle.gz_links.specs.Links.{outputs_of}
 use Rattle.gz_spec.specs.Shards.{app_of}
 use Rattle.gz_spec.specs.Specs.{name_of_journal}
 use Rattle.gz_spec.specs.Valid.{are_specs}
@@ -34,11 +32,9 @@ in_id_order shards = put_shards shards []
 -- ---- a shard
 
 -- The application of this name. A shard that was read has one.
-abbrev pub kind_of : Option App → AppKind
+abbrev pub kind_of : Option AppKind → AppKind
 kind_of None = Count
-kind_of (Some spec.Count) = Count
-kind_of (Some spec.Relay) = Relay
-kind_of (Some spec.Latest) = Latest
+kind_of (Some app) = app
 
 -- a source is read from its least offset on
 abbrev pub source_of : SourceSpec → Source

@@ -1,34 +1,32 @@
--- A world: the specifications, the key space with those who joined, the clients, what was told of the events, and the
--- journals and shards. And what an event makes of it.
-use Rattle.std.specs.Prelude.{ℕ, ◌+◌, ◌||◌, List, [], ◌∷◌, ◌++◌, map, length, Option, Some, None, Result, Ok, Err, Bool, true, false, if◌then◌else◌, nat_le}
-use Rattle.std.specs.List.{list_any}
-use Rattle.gz_uuid.specs.Producer.{client_octets}
-use Rattle.gz_frame.specs.Messages.{Message, continue_txn, outside_txn, ack_txn}
-use Rattle.gz_spec.specs.Names.{is_reserved}
-use Rattle.gz_spec.specs.Links.{held}
-use Rattle.gz_spec.specs.Joins.{join_of}
-use Rattle.gz_spec.specs.declared.framing.Framing.{Framing}
-use Rattle.gz_spec.specs.declared.framing.Framing.TheVariants.{Lines, FixedFrames, RecoveryLog, Bytes}
+-- A world: what has happened, and what came of it: the specifications, the key space with those who joined, the clients,
+-- what was told of the events, and the journals and shards. And what an event makes of it.
+use Rattle.std.specs.Prelude.{◌≡◌, ℕ, ◌||◌, List, [], ◌∷◌, ◌++◌, length, Option, Some, None, Result, Ok, Err, Bool, true, false, if◌then◌else◌}
+use Rattle.std.specs.List.{list_all, list_any}
+use Rattle.gz_spec.specs.Reserved.{is_reserved}
+use Rattle.gz_links.specs.Links.{held}
+use Rattle.gz_links.specs.Joins.{join_of}
 use Rattle.gz_spec.specs.Records.{Specs}
-use Rattle.gz_spec.specs.declared.error.SpecError.{SpecError}
+use Rattle.gz_links.specs.declared.error.SpecError.{SpecError}
 use Rattle.gz_keyspace.specs.declared.formats.Joined.{Joined}
 use Rattle.gz_keyspace.specs.Keys.{same_key}
 use Rattle.gz_registry.specs.Registered.{Registered, was_member, registry_start, put_answer, after_put, join_answer, after_join, expire_answer, after_expiry}
 use Rattle.gz_registry.specs.declared.error.RegistryError.{RegistryError}
 use Rattle.gz_registry.specs.declared.error.RegistryError.TheVariants as registry
-use Rattle.gz_scenario.specs.declared.event.Flag.{Flag}
-use Rattle.gz_scenario.specs.declared.event.Flag.TheVariants.{Outside, Continue, Ack}
-use Rattle.gz_scenario.specs.declared.event.Draft.{Draft}
+use Rattle.gz_scenario.specs.Lawful.{is_start, is_event}
 use Rattle.gz_scenario.specs.declared.event.Publish.{Publish as Published}
 use Rattle.gz_scenario.specs.declared.event.MemberKind.{MemberKind}
 use Rattle.gz_scenario.specs.declared.event.MemberKind.TheVariants.{Broker, Consumer}
 use Rattle.gz_scenario.specs.declared.event.Join.{Join}
 use Rattle.gz_scenario.specs.declared.event.Event.{Event}
 use Rattle.gz_scenario.specs.declared.event.Event.TheVariants.{Specs as Begins, Publish, Settle, Apply, Join as Joins, Expire}
+use Rattle.gz_client.specs.Answers.{refusal_of, answer_of, stands}
+use Rattle.gz_client.specs.Requests.{request_of}
+use Rattle.gz_client.specs.declared.answer.Answer.{Answer}
+use Rattle.gz_client.specs.declared.answer.Answer.TheVariants as client
+use Rattle.gz_journal.specs.JournalList.{judgement}
+use Rattle.gz_journal.specs.declared.request.Request.{Request}
 use Rattle.gz_plain.specs.Journals.{Journal, text_of, appended}
 use Rattle.gz_plain.specs.Shards as plain
-use Rattle.gz_world.specs.declared.reply.Answer.{Answer}
-use Rattle.gz_world.specs.declared.reply.Answer.TheVariants.{Landed, TooLarge, NotFramed}
 use Rattle.gz_world.specs.declared.reply.Reason.{Reason}
 use Rattle.gz_world.specs.declared.reply.Reason.TheVariants.{NameUsed, NoRoute, BadSpecs, MembersFull, NoMember, KeysEnd}
 use Rattle.gz_world.specs.declared.reply.Told.{Told}
@@ -37,18 +35,20 @@ use Rattle.gz_world.specs.declared.reply.Applied.{Applied}
 use Rattle.gz_world.specs.declared.reply.Applied.TheVariants as applied
 use Rattle.gz_world.specs.Starts.{cluster_start, cluster_with}
 
--- The specifications have the journals and shards of now, and the members of the start. The clients are those that
--- were answered.
+-- It began with specifications, and these events happened then, each with its line. What came of that: the specifications
+-- have the journals and shards of now, and the members of the start. The clients are those that were answered.
 pub record World : Type 0 where
+  pub begun : Specs
+  pub events : List (ℕ × Event)
   pub specs : Specs
   pub registry : Registered
   pub clients : List (List ℕ)
   pub told : List Told
   pub cluster : plain.World
 
--- what specifications start: nothing was told yet
+-- what specifications start: nothing has happened yet, and nothing was told
 abbrev pub world_start : Specs → World
-world_start specs = record { specs = specs; registry = registry_start specs; clients = []; told = []; cluster = cluster_start specs }
+world_start specs = record { begun = specs; events = []; specs = specs; registry = registry_start specs; clients = []; told = []; cluster = cluster_start specs }
 
 -- ---- clients
 
@@ -65,76 +65,48 @@ with_client name clients = if has_asked name clients then clients else clients +
 abbrev pub refused : ℕ → Reason → World → World
 refused line reason w = record w { told = w.told ++ Refused line reason ∷ [] }
 
--- ---- the messages of a publish
-
-abbrev pub flags_of : Flag → ℕ
-flags_of Outside = outside_txn
-flags_of Continue = continue_txn
-flags_of Ack = ack_txn
-
--- a draft as a message of this producer
-abbrev pub message_at : List ℕ → Draft → Message
-message_at producer d = record { producer = producer; clock = d.clock; flags = flags_of d.flag; key = d.key; value = d.value }
-
-abbrev pub messages_at : List ℕ → List Draft → List Message
-messages_at producer drafts = map (message_at producer) drafts
-
--- the lines of the client's messages
-abbrev pub text_at : List ℕ → List Draft → List ℕ
-text_at producer drafts = plain.text_of_lines (messages_at producer drafts)
-
-abbrev pub content_of : Published → List ℕ
-content_of p = text_at (client_octets p.producer) p.messages
-
--- ---- how a publish is judged
-
--- the most bytes of an append
-abbrev pub max_append : ℕ
-max_append = 1048576
-
--- Lines may land in journals of lines and of any bytes. No line begins a fixed frame.
-abbrev pub takes_lines : Framing → Bool
-takes_lines Lines = true
-takes_lines FixedFrames = false
-takes_lines RecoveryLog = false
-takes_lines Bytes = true
+-- ---- a publish
 
 -- the name isn't free: it is or was a member's, or is kept for the program's own
 abbrev pub is_taken : List ℕ → Registered → Bool
 is_taken name registry = was_member name registry.members || is_reserved name
 
--- the answer of a journal of this framing, with so many bytes, to an append of so many
-abbrev pub answer_of : Framing → ℕ → ℕ → Answer
-answer_of framing end len = if nat_le len max_append then (if takes_lines framing then Landed end (end + len) else NotFramed) else TooLarge
+-- What a client is told of its request: why the journal isn't asked, where it isn't, and otherwise its judgement. Journals
+-- of the cluster have no registers.
+abbrev pub answer_to : Request → Published → World → Answer
+answer_to r p w =
+    answer_of (refusal_of (is_taken p.client w.registry) (held w.specs.journals p.journal) (length r.content))
+    (judgement (length (text_of p.journal w.cluster.journals)) [] r).landed
 
-abbrev pub answer_if : Option Framing → ℕ → ℕ → Result Answer Reason
-answer_if None end len = Err NoRoute
-answer_if (Some framing) end len = Ok (answer_of framing end len)
-
--- what becomes of an append of so many bytes: the event is refused, or the journal answers
-abbrev pub judged_append : Registered → Specs → List Journal → List ℕ → List ℕ → ℕ → Result Answer Reason
-judged_append registry specs js client journal len =
-    if is_taken client registry then Err NameUsed else answer_if (held specs.journals journal) (length (text_of journal js)) len
-
-abbrev pub judged_publish : World → Published → Result Answer Reason
-judged_publish w p = judged_append w.registry w.specs w.cluster.journals p.client p.journal (length (content_of p))
-
--- ---- what a publish makes of the world
-
--- What is answered Landed lands.
+-- the content stands behind the journal, where the answer says so
 abbrev pub landed : Answer → List ℕ → List ℕ → List Journal → List Journal
-landed (Landed begin end) journal content js = appended journal content js
-landed TooLarge journal content js = js
-landed NotFramed journal content js = js
+landed answer journal content js = if stands answer then appended journal content js else js
 
--- An answer is told, and its client has asked from then on. So is a refusal, which changes nothing else.
-abbrev pub published : ℕ → Published → World → Result Answer Reason → World
-published line p w (Ok answer) = record w {
-  clients = with_client p.client w.clients;
-  told = w.told ++ Replied line p.client answer ∷ [];
-  cluster = record w.cluster { journals = landed answer p.journal (content_of p) w.cluster.journals };
-}
-published line p w (Err reason) = refused line reason w
+abbrev pub with_landed : Answer → Request → Published → World → World
+with_landed answer r p w = record w { cluster = record w.cluster { journals = landed answer p.journal r.content w.cluster.journals } }
+
+-- A name that isn't free refuses the event, and so does a journal that isn't there.
+abbrev pub reason_of : Answer → Option Reason
+reason_of client.NameUsed = Some NameUsed
+reason_of client.NoRoute = Some NoRoute
+reason_of client.TooLarge = None
+reason_of client.NotFramed = None
+reason_of (client.Judged judged) = None
+
+-- an answer is told, and its client has asked from then on
+abbrev pub replied : ℕ → List ℕ → Answer → World → World
+replied line name answer w = record w { clients = with_client name w.clients; told = w.told ++ Replied line name answer ∷ [] }
+
+abbrev pub told_of : Option Reason → ℕ → List ℕ → Answer → World → World
+told_of None line name answer w = replied line name answer w
+told_of (Some reason) line name answer w = refused line reason w
+
+abbrev pub answered : Answer → Request → ℕ → Published → World → World
+answered answer r line p w = told_of (reason_of answer) line p.client answer (with_landed answer r p w)
+
+-- What a publish makes of the world. Its request has the number of its line.
+abbrev pub published : ℕ → Published → World → World
+published line p w = answered (answer_to (request_of line p) p w) (request_of line p) line p w
 
 -- ---- more specifications
 
@@ -197,25 +169,53 @@ with_registry line w (Err reason) = refused line reason w
 abbrev pub settled : World → World
 settled w = record w { cluster = plain.settled w.cluster }
 
--- What the event of a line makes of the world. Specifications come on the first line alone; on another one they
--- would change nothing.
+-- What comes of the event of a line. Specifications come on the first line alone; on another one they would change
+-- nothing.
+abbrev pub done : ℕ → Event → World → World
+done line (Begins specs) w = w
+done line (Publish p) w = published line p w
+done line Settle w = settled w
+done line (Apply more) w = with_specs line more w (judged_apply w more)
+done line (Joins j) w = with_registry line w (judged_join w j)
+done line (Expire name) w = with_registry line w (judged_expire w name)
+
+-- what the event of a line makes of the world: it has happened
 abbrev pub after : ℕ → Event → World → World
-after line (Begins specs) w = w
-after line (Publish p) w = published line p w (judged_publish w p)
-after line Settle w = settled w
-after line (Apply more) w = with_specs line more w (judged_apply w more)
-after line (Joins j) w = with_registry line w (judged_join w j)
-after line (Expire name) w = with_registry line w (judged_expire w name)
+after line e w = record (done line e w) { events = w.events ++ (line, e) ∷ [] }
+
+-- what events make of it, each with its line, one after another
+abbrev pub after_all : List (ℕ × Event) → World → World
+after_all [] w = w
+after_all (h ∷ hs) w = after_all hs (after h.0 h.1 w)
+
+-- ---- a run
+
+-- each of these is an event that reading accepts
+abbrev pub are_events : List (ℕ × Event) → Bool
+are_events hs = list_all (λ h. is_event h.1) hs
+
+-- A world of a run is what its own events made of the specifications that it began with, and all of these are such as
+-- reading accepts.
+pub record IsRun (w : World) : Type 0 where
+  pub start : is_start w.begun ≡ true
+  pub lawful : are_events w.events ≡ true
+  pub reached : w ≡ after_all w.events (world_start w.begun)
+
+-- ---- what became of an event
 
 abbrev pub applied_if : {A : Type 0} → Result A Reason → Applied
 applied_if (Ok a) = applied.Done
 applied_if (Err reason) = applied.Refused reason
 
--- whether the event was done or refused
-abbrev pub applied_of : Event → World → Applied
-applied_of (Begins specs) w = applied.Done
-applied_of (Publish p) w = applied_if (judged_publish w p)
-applied_of Settle w = applied.Done
-applied_of (Apply more) w = applied_if (judged_apply w more)
-applied_of (Joins j) w = applied_if (judged_join w j)
-applied_of (Expire name) w = applied_if (judged_expire w name)
+abbrev pub applied_unless : Option Reason → Applied
+applied_unless None = applied.Done
+applied_unless (Some reason) = applied.Refused reason
+
+-- whether the event of a line was done or refused
+abbrev pub applied_of : ℕ → Event → World → Applied
+applied_of line (Begins specs) w = applied.Done
+applied_of line (Publish p) w = applied_unless (reason_of (answer_to (request_of line p) p w))
+applied_of line Settle w = applied.Done
+applied_of line (Apply more) w = applied_if (judged_apply w more)
+applied_of line (Joins j) w = applied_if (judged_join w j)
+applied_of line (Expire name) w = applied_if (judged_expire w name)

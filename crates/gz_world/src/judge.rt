@@ -1,16 +1,17 @@
-//! How a publish is judged.
-ghost use Rattle.std.specs.Prelude.{◌≡◌, ◌≤◌, ◌+◌, ◌^◌, [], length, MatchOption};
+//! Names of clients, and journals by name.
+ghost use Rattle.std.specs.Prelude.{◌≡◌, [], length, IfOk, MatchOption};
+ghost use Rattle.gz_journal.specs.JournalList.{judgement};
 ghost use Rattle.gz_plain.specs.Journals.{text_of};
-ghost use Rattle.gz_world.specs.Worlds.{is_taken, takes_lines, answer_of, judged_append};
+ghost use Rattle.gz_world.specs.Worlds.{is_taken, reason_of};
 
-use crate::reply::{Answer, Reason};
-use gz_label::Name;
+use crate::reply::Reason;
+use gz_client::Answer;
+use gz_journal::{Judged, Landed, Request, judge};
+use gz_label::{LabelSet, Name, NoMemory};
 use gz_plain::{Cluster, Journal};
 use gz_registry::Registry;
-use gz_spec::{Framing, Specs, held, is_reserved};
-
-/// The most bytes of an append.
-const MAX_APPEND: u64 = 1_048_576;
+use gz_spec::is_reserved;
+use std::alloc::Global;
 
 /// Whether the name isn't free: it is or was a member's, or is kept for the program's own.
 pub fn is_taken(name: &Name, registry: &Registry) -> bool
@@ -29,8 +30,7 @@ pub fn journal_in<'a>(cluster: &'a Cluster, name: &[u8]) -> Option<&'a Journal>
 
 /// The end of the text of the journal of this name, which is 0 where there is no such journal.
 fn end_in(cluster: &Cluster, name: &[u8]) -> u64
-    ensures end { result ≡ length (text_of name.now cluster.now.journals) }
-    ensures short { result ≤ 2 ^ 62 }
+    ensures { result ≡ length (text_of name.now cluster.now.journals) }
 {
     match journal_in(cluster, name) {
         Some(journal) => journal.end(),
@@ -38,50 +38,27 @@ fn end_in(cluster: &Cluster, name: &[u8]) -> u64
     }
 }
 
-fn takes_lines(framing: Framing) -> bool
-    ensures { result ≡ takes_lines framing }
-{
-    match framing {
-        Framing::Lines | Framing::Bytes => true,
-        Framing::FixedFrames | Framing::RecoveryLog => false,
-    }
-}
-
-/// What a journal answers whose text has so many bytes, to an append of so many.
-fn answer_of(framing: Framing, end: u64, len: u64) -> Answer
-    requires { end ≤ 2 ^ 62 }
-    ensures { result ≡ answer_of framing end len }
-{
-    if len > MAX_APPEND {
-        return Answer::TooLarge;
-    }
-    if !takes_lines(framing) {
-        return Answer::NotFramed;
-    }
-    Answer::Landed {
-        begin: end,
-        end: end + len,
-    }
-}
-
-/// What becomes of a client's append of so many bytes of lines to a journal: it is refused, or the journal
-/// answers. Nothing is changed.
-pub fn judge_append(
-    registry: &Registry,
-    specs: &Specs,
+/// What the journal of this name judges of a request. A journal of the cluster has no registers.
+pub fn judge_in(
+    alloc: Global,
     cluster: &Cluster,
-    client: &Name,
-    journal: &[u8],
-    len: u64,
-) -> Result<Answer, Reason>
-    ensures { result ≡ judged_append registry.now specs.now cluster.now.journals client.now journal.now len }
+    name: &[u8],
+    request: &Request,
+) -> Result<Landed, NoMemory>
+    ensures { IfOk result (λ judged. judged ≡ (judgement (length (text_of name.now cluster.now.journals)) [] request.now).landed) }
 {
-    if is_taken(client, registry) {
-        return Err(Reason::NameUsed);
+    let none = LabelSet::new(alloc);
+    let Judged { landed, .. } = judge(end_in(cluster, name), &none, request)?;
+    Ok(landed)
+}
+
+/// Why the event is refused whose client is told this; None where it is told as an answer.
+pub fn reason_of(answer: &Answer) -> Option<Reason>
+    ensures { result ≡ reason_of answer.now }
+{
+    match answer {
+        Answer::NameUsed => Some(Reason::NameUsed),
+        Answer::NoRoute => Some(Reason::NoRoute),
+        Answer::TooLarge | Answer::NotFramed | Answer::Judged(_) => None,
     }
-    let Some(framing) = held(specs.journals.as_slice(), journal) else {
-        return Err(Reason::NoRoute);
-    };
-    let end = end_in(cluster, journal);
-    Ok(answer_of(framing, end, len))
 }

@@ -1,7 +1,6 @@
 //! Replays: the lines of a scenario, what they make of a world, and its report.
 #![tactic(auto)]
 
-mod content;
 mod judge;
 mod laws;
 mod replays;
@@ -12,7 +11,10 @@ mod start;
 mod tests;
 mod world;
 
-pub use laws::{a_settle_ends_every_run, every_run_is_exactly_once};
+pub use laws::{
+    a_settle_ends_every_run, a_world_is_the_run_of_its_events, every_run_is_exactly_once,
+    what_a_report_tells_is_so,
+};
 pub use replays::{ReplayError, refusal_line, replay};
-pub use reply::{Answer, Applied, Reason, Told};
+pub use reply::{Applied, Reason, Told};
 pub use world::World;

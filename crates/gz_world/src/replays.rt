@@ -5,7 +5,7 @@ ghost use Rattle.gz_model.specs.Faults.{HasRisen};
 ghost use Rattle.gz_model.specs.Told.{ahead};
 ghost use Rattle.gz_scenario.specs.Events.{event_of};
 ghost use Rattle.gz_scenario.specs.Lawful.{is_event};
-ghost use Rattle.gz_world.specs.Starts.{IsSpecified};
+ghost use Rattle.gz_world.specs.Worlds.{IsRun};
 ghost use Rattle.gz_world.specs.Run.{judged, judged_first, started, refusal_line as line_of};
 ghost use Rattle.gz_world.specs.Replays.{refused_or, Gives, GivesValue};
 ghost use Rattle.gz_world.specs.Told.{HasOutcome, RunsTo, TakesNext};
@@ -73,7 +73,7 @@ fn read_line(alloc: Global, number: u64, line: &[u8]) -> Result<Event, ReplayErr
 /// The world that the first line starts.
 fn begin(alloc: Global, line: &[u8]) -> Result<World, ReplayError>
     ensures gives { GivesValue result (judged_first line.now) }
-    ensures specified { IfOk result (λ world. IsSpecified world.specs world.cluster) }
+    ensures run { IfOk result (λ world. IsRun world) }
 {
     match read_line(alloc, 1, line)? {
         Event::Specs(specs) => {
@@ -95,9 +95,9 @@ fn advance(
     world: &mut World,
 ) -> Result<(), ReplayError>
     requires before { before ≤ 134217728 }
-    requires specified { IsSpecified world.old.specs world.old.cluster }
+    requires run { IsRun world.old }
     ensures gives { Gives world.new result (judged number before line.now world.old) }
-    ensures specified { OnOk result (IsSpecified world.new.specs world.new.cluster) }
+    ensures run { OnOk result (IsRun world.new) }
     ensures within { OnOk result ((number ≤ 65536) × (before + length line.now ≤ 134217728)) }
 {
     if line.len() as u64 > MAX_INPUT - before {
@@ -136,7 +136,7 @@ fn go_on<S: Source>(
     world: &mut World,
 ) -> Result<(), ReplayError>
     requires first { first ≤ 134217728 }
-    requires specified { IsSpecified world.old.specs world.old.cluster }
+    requires run { IsRun world.old }
     ensures done { OnOk result (RunsTo (ahead reader.old (S.left input.old)) first world.old (Ok world.new)) }
     ensures end { OnOk result (IsAtEnd (S.left input.new)) }
     ensures refused { (refusal : ScenarioError) → result ≡ Err (ReplayError.Refused refusal) → RunsTo (ahead reader.old (S.left input.old)) first world.old (Err refusal) }

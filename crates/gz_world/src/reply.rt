@@ -1,17 +1,7 @@
 //! What is told of events.
 
+use gz_client::Answer;
 use gz_label::Name;
-
-/// What a journal answers to an append.
-#[derive(Clone, Copy, Debug, PartialEq, Eq)]
-pub enum Answer {
-    /// It landed, from the offset of its first byte to the one behind its last.
-    Landed { begin: u64, end: u64 },
-    /// It has more than 1,048,576 bytes.
-    TooLarge,
-    /// The journal is one of fixed frames, and it isn't.
-    NotFramed,
-}
 
 /// Why an event is refused.
 #[derive(Clone, Copy, Debug, PartialEq, Eq)]

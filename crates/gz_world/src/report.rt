@@ -2,12 +2,12 @@
 ghost use Rattle.std.specs.Prelude.{◌≡◌, ◌++◌, map, flat_map, IfOk, OnOk};
 ghost use Rattle.gz_plain.specs.Journals.{text_of};
 ghost use Rattle.gz_plain.specs.Reports.{report_of as report_of_shard};
-ghost use Rattle.gz_world.specs.declared.reply.Answer.TheVariants.{Landed};
 ghost use Rattle.gz_world.specs.declared.reply.Told.TheVariants.{Replied, Refused};
-ghost use Rattle.gz_world.specs.Report.{answer_text, reason_text, told_line, in_name_order, journal_of, journal_text, journal_line, status_of, shard_line, shard_lines, report_from};
+ghost use Rattle.gz_world.specs.Report.{reason_text, told_line, in_name_order, journal_of, journal_text, journal_line, status_of, shard_line, shard_lines, report_from};
 
 use crate::judge::journal_in;
-use crate::reply::{Answer, Reason, Told};
+use crate::reply::{Reason, Told};
+use gz_client::Answer;
 use gz_label::{Blob, Name, NoMemory};
 use gz_plain::{Cluster, ShardReport, count_committed};
 use gz_spec::{Framing, JournalSpec};
@@ -40,23 +40,6 @@ fn in_name_order(alloc: Global, journals: &[JournalSpec]) -> Result<JournalTable
     Ok(JournalTable { entries })
 }
 
-fn print_landed(alloc: Global, begin: u64, end: u64) -> Result<Blob, NoMemory>
-    ensures { IfOk result (λ text. text ≡ answer_text (Landed begin end)) }
-{
-    let text = format!(in alloc; "ok {begin} {end}")?;
-    Blob::of(alloc, text.as_bytes())
-}
-
-fn print_answer(alloc: Global, answer: Answer) -> Result<Blob, NoMemory>
-    ensures { IfOk result (λ text. text ≡ answer_text answer) }
-{
-    match answer {
-        Answer::Landed { begin, end } => print_landed(alloc, begin, end),
-        Answer::TooLarge => Blob::of(alloc, b"too large 1048576"),
-        Answer::NotFramed => Blob::of(alloc, b"not framed"),
-    }
-}
-
 fn reason_text(reason: Reason) -> &'static [u8]
     ensures { result.now ≡ reason_text reason }
 {
@@ -75,13 +58,13 @@ fn print_reply(
     out: &mut Blob,
     line: u64,
     client: &Name,
-    answer: Answer,
+    answer: &Answer,
 ) -> Result<(), NoMemory>
-    ensures { OnOk result (out.new ≡ out.old ++ told_line (Replied line client.now answer)) }
+    ensures { OnOk result (out.new ≡ out.old ++ told_line (Replied line client.now answer.now)) }
 {
     let client = client.as_str();
     let head = format!(in alloc; "reply {line} {client} ")?;
-    let answer = print_answer(alloc, answer)?;
+    let answer = answer.print(alloc)?;
     out.append(head.as_bytes())?;
     out.append(answer.as_slice())?;
     out.append(b"\n")
@@ -104,7 +87,7 @@ fn print_told(alloc: Global, out: &mut Blob, told: &Told) -> Result<(), NoMemory
             line,
             client,
             answer,
-        } => print_reply(alloc, out, *line, client, *answer),
+        } => print_reply(alloc, out, *line, client, answer),
         Told::Refused { line, reason } => print_refusal(alloc, out, *line, *reason),
     }
 }

@@ -2,7 +2,7 @@
 ghost use Rattle.std.specs.Prelude.{◌≡◌, ◌++◌, ◌≤◌, length, map, drop, codes, IfOk, OnOk, IsTrue};
 ghost use Rattle.std.specs.List.{list_all};
 ghost use Rattle.gz_label.specs.Labels.{values_of};
-ghost use Rattle.gz_spec.specs.Links.{are_linked};
+ghost use Rattle.gz_links.specs.Links.{are_linked};
 ghost use Rattle.gz_spec.specs.Valid.{is_source, is_shard};
 ghost use Rattle.gz_plain.specs.Cluster.{AreSmallSources, AreSmall, source_named, definition_of as definition_seen, definitions_of as definitions_seen};
 ghost use Rattle.gz_plain.specs.Places.{names_of};
@@ -13,7 +13,7 @@ ghost use Rattle.gz_world.specs.Starts.{kind_of, source_of, definition_of, defin
 use gz_app::AppKind;
 use gz_label::{Label, Name, NoMemory};
 use gz_plain::{Cluster, Definition, Source};
-use gz_spec::{App, JournalSpec, ShardSpec, SourceSpec, Specs};
+use gz_spec::{JournalSpec, ShardSpec, SourceSpec, Specs};
 use std::alloc::Global;
 use std::collections::BTreeMap;
 use std::marker::Model;
@@ -44,13 +44,12 @@ fn in_id_order(alloc: Global, shards: &[ShardSpec]) -> Result<ShardTable, NoMemo
     Ok(ShardTable { entries })
 }
 
-fn kind_of(app: Option<App>) -> AppKind
+fn kind_of(app: Option<AppKind>) -> AppKind
     ensures { result ≡ kind_of app }
 {
     match app {
-        None | Some(App::Count) => AppKind::Count,
-        Some(App::Relay) => AppKind::Relay,
-        Some(App::Latest) => AppKind::Latest,
+        None => AppKind::Count,
+        Some(app) => app,
     }
 }
 

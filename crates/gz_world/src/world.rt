@@ -1,33 +1,39 @@
 //! The world.
-ghost use Rattle.std.specs.Prelude.{◌≡◌, ◌++◌, [], ◌∷◌, Ok, IfOk, OnOk, IsTrue};
-ghost use Rattle.gz_spec.specs.Joins.{join_of};
+ghost use Rattle.std.specs.Prelude.{◌≡◌, Ok, IfOk, OnOk, IsTrue};
+ghost use Rattle.gz_links.specs.Joins.{join_of};
 ghost use Rattle.gz_scenario.specs.Lawful.{is_start, is_publish, is_apply, is_joiner, is_event};
+ghost use Rattle.gz_client.specs.Requests.{request_of};
 ghost use Rattle.gz_registry.specs.Registered.{put_answer};
 ghost use Rattle.gz_world.specs.declared.reply.Applied.TheVariants as applied;
 ghost use Rattle.gz_world.specs.Starts.{IsSpecified};
-ghost use Rattle.gz_world.specs.declared.reply.Told.TheVariants.{Replied};
-ghost use Rattle.gz_world.specs.Worlds.{world_start, refused, with_client, judged_publish, landed, published, registered, judged_apply, with_specs, is_consumer, judged_join, judged_expire, with_registry, settled, after, applied_if, applied_of};
+ghost use Rattle.gz_world.specs.Worlds.{world_start, refused, answer_to, with_landed, reason_of, replied, told_of, published, registered, judged_apply, with_specs, is_consumer, judged_join, judged_expire, with_registry, settled, done, after, IsRun, applied_if, applied_unless, applied_of};
 ghost use Rattle.gz_world.specs.Report.{report_of};
 
-use crate::content::print_drafts;
-use crate::judge::{is_taken, judge_append};
-use crate::reply::{Answer, Applied, Reason, Told};
+use crate::judge::{is_taken, judge_in, reason_of};
+use crate::reply::{Applied, Reason, Told};
 use crate::{report, start};
+use gz_client::{Answer, refusal, request_of};
+use gz_history::History;
+use gz_journal::Request;
 use gz_keyspace::Joined;
-use gz_label::{Attempt, Blob, Name, NoMemory};
+use gz_label::{Blob, Name, NoMemory};
+use gz_links::{SpecError, held, join};
 use gz_plain::Cluster;
 use gz_registry::{Registry, RegistryError};
 use gz_scenario::{Event, Join, MemberKind, Publish};
-use gz_spec::{SpecError, Specs};
-use gz_uuid::ProducerId;
+use gz_spec::Specs;
 use indexmap::IndexSet;
 use std::alloc::Global;
 use std::marker::Model;
+use std::snapshot::Snapshot;
 
-/// A cluster over plain texts: its specifications, its key space with those who joined, the clients that were answered,
-/// what was told so far, and its journals and shards. After a call that finds no memory it isn't used again.
+/// A cluster of plain journals: its specifications, its key space with those who joined, the clients that were answered,
+/// what was told so far, and its journals and shards. Contracts see beside that the specifications that it began with and
+/// all events, each with its line; no memory is taken for them. After a call that finds no memory it isn't used again.
 #[derive(Drop)]
 pub struct World {
+    begun: Snapshot<Specs>,
+    events: History<u64, Event>,
     specs: Specs,
     registry: Registry,
     clients: IndexSet<Name>,
@@ -40,7 +46,7 @@ impl Model for World {
 
     ghost Value = { Seen };
 
-    ghost view = { λ a. record { specs = a.specs; registry = a.registry; clients = a.clients.keys; told = a.told.items; cluster = a.cluster } };
+    ghost view = { λ a. record { begun = a.begun.value; events = a.events.items; specs = a.specs; registry = a.registry; clients = a.clients.keys; told = a.told.items; cluster = a.cluster } };
 }
 
 /// Whether the member is a consumer.
@@ -58,11 +64,14 @@ impl World {
     pub fn start(alloc: Global, specs: Specs) -> Result<World, NoMemory>
         requires { IsTrue (is_start specs) }
         ensures world { IfOk result (λ world. world ≡ world_start specs) }
-        ensures specified { IfOk result (λ world. IsSpecified world.specs world.cluster) }
+        ensures run { IfOk result (λ world. IsRun world) }
     {
+        let begun = Snapshot::of(&specs);
         let registry = Registry::start(alloc, &specs)?;
         let cluster = start::start(alloc, &specs)?;
         Ok(World {
+            begun,
+            events: History::new(),
             specs,
             registry,
             clients: IndexSet::new(alloc),
@@ -80,33 +89,42 @@ impl World {
         Ok(Applied::Refused(reason))
     }
 
-    /// Puts the lines behind the text of the journal, where it answered that they landed, as the append of a client's
-    /// line.
-    fn land(
-        &mut self,
-        answer: Answer,
-        line: u64,
-        publish: &Publish,
-        content: Blob,
-    ) -> Result<(), NoMemory>
-        ensures { OnOk result (self.new ≡ record self.old { cluster = record self.old.cluster { journals = landed answer publish.now.journal content self.old.cluster.journals } }) }
+    /// What a client is told of its request: why its journal isn't asked, where it isn't, and otherwise what that judges.
+    /// Nothing is changed.
+    fn judge(&self, alloc: Global, publish: &Publish, request: &Request) -> Result<Answer, NoMemory>
+        ensures { IfOk result (λ answer. answer ≡ answer_to request.now publish.now self.now) }
     {
-        match answer {
-            Answer::Landed { .. } => {
-                let attempt = Attempt {
-                    node: publish.client.copy()?,
-                    req: line,
-                };
-                self.cluster
-                    .append(publish.journal.as_slice(), attempt, content)
+        let is_taken = is_taken(&publish.client, &self.registry);
+        let framing = held(self.specs.journals.as_slice(), publish.journal.as_slice());
+        match refusal(is_taken, framing, request.content.len() as u64) {
+            Some(answer) => Ok(answer),
+            None => {
+                let journal = publish.journal.as_slice();
+                let judged = judge_in(alloc, &self.cluster, journal, request)?;
+                Ok(Answer::Judged(judged))
             }
-            Answer::TooLarge | Answer::NotFramed => Ok(()),
         }
+    }
+
+    /// Puts the content of the request behind the journal, where it answered that it landed, as an entry of its attempt.
+    fn land(&mut self, answer: &Answer, publish: &Publish, request: Request) -> Result<(), NoMemory>
+        ensures { OnOk result (self.new ≡ with_landed answer.now request publish.now self.old) }
+    {
+        if !answer.is_landed() {
+            return Ok(());
+        }
+        let Request {
+            attempt,
+            content,
+            ..
+        } = request;
+        self.cluster
+            .append(publish.journal.as_slice(), attempt, content)
     }
 
     /// Tells a client its answer. The client has asked from then on.
     fn reply(&mut self, line: u64, client: &Name, answer: Answer) -> Result<(), NoMemory>
-        ensures { OnOk result (self.new ≡ record self.old { clients = with_client client.now self.old.clients; told = self.old.told ++ Replied line client.now answer ∷ [] }) }
+        ensures { OnOk result (self.new ≡ replied line client.now answer self.old) }
     {
         self.clients.insert(client.copy()?)?;
         let client = client.copy()?;
@@ -118,29 +136,29 @@ impl World {
         Ok(())
     }
 
-    #[tactic(auto, unfolding(gz_scenario::specs::Lawful::is_publish))]
-    fn publish(&mut self, alloc: Global, line: u64, publish: &Publish) -> Result<Applied, NoMemory>
-        requires { IsTrue (is_publish publish.now) }
-        ensures applied { IfOk result (λ applied. applied ≡ applied_if (judged_publish self.old publish.now)) }
-        ensures after { OnOk result (self.new ≡ published line publish.now self.old (judged_publish self.old publish.now)) }
+    /// Tells what became of a publish: the answer, or that the event is refused.
+    fn tell(&mut self, line: u64, client: &Name, answer: Answer) -> Result<Applied, NoMemory>
+        ensures applied { IfOk result (λ applied. applied ≡ applied_unless (reason_of answer)) }
+        ensures told { OnOk result (self.new ≡ told_of (reason_of answer) line client.now answer self.old) }
     {
-        let producer = ProducerId::client(publish.producer).unwrap();
-        let content = print_drafts(alloc, producer, publish.messages.as_slice())?;
-        match judge_append(
-            &self.registry,
-            &self.specs,
-            &self.cluster,
-            &publish.client,
-            publish.journal.as_slice(),
-            content.len() as u64,
-        ) {
-            Ok(answer) => {
-                self.land(answer, line, publish, content)?;
-                self.reply(line, &publish.client, answer)?;
+        match reason_of(&answer) {
+            Some(reason) => self.refuse(line, reason),
+            None => {
+                self.reply(line, client, answer)?;
                 Ok(Applied::Done)
             }
-            Err(reason) => self.refuse(line, reason),
         }
+    }
+
+    fn publish(&mut self, alloc: Global, line: u64, publish: &Publish) -> Result<Applied, NoMemory>
+        requires { IsTrue (is_publish publish.now) }
+        ensures applied { IfOk result (λ applied. applied ≡ applied_unless (reason_of (answer_to (request_of line publish.now) publish.now self.old))) }
+        ensures done { OnOk result (self.new ≡ published line publish.now self.old) }
+    {
+        let request = request_of(alloc, line, publish)?;
+        let answer = self.judge(alloc, publish, &request)?;
+        self.land(&answer, publish, request)?;
+        self.tell(line, &publish.client, answer)
     }
 
     /// Puts more specifications into the key space, where it takes them, and makes the journals and shards those of
@@ -180,7 +198,7 @@ impl World {
         ensures applied { IfOk result (λ applied. applied ≡ applied_if (judged_apply self.old more.now)) }
         ensures after { OnOk result (self.new ≡ with_specs line more.now self.old (judged_apply self.old more.now)) }
     {
-        match self.specs.join(more) {
+        match join(alloc, &self.specs, more) {
             Ok(all) => self.take_specs(alloc, line, more, all),
             Err(SpecError::NoMemory) => Err(NoMemory),
             Err(_) => self.refuse(line, Reason::BadSpecs),
@@ -229,8 +247,8 @@ impl World {
     fn take(&mut self, alloc: Global, line: u64, event: &Event) -> Result<Applied, NoMemory>
         requires lawful { IsTrue (is_event event.now) }
         requires specified { IsSpecified self.old.specs self.old.cluster }
-        ensures applied { IfOk result (λ applied. applied ≡ applied_of event.now self.old) }
-        ensures after { OnOk result (self.new ≡ after line event.now self.old) }
+        ensures applied { IfOk result (λ applied. applied ≡ applied_of line event.now self.old) }
+        ensures done { OnOk result (self.new ≡ done line event.now self.old) }
     {
         match event {
             Event::Specs(_) => Ok(Applied::Done),
@@ -245,20 +263,21 @@ impl World {
         }
     }
 
-    /// Does what the event of a line says. A publish is refused or answered, and lands at the end of its journal's
-    /// text where the answer says so; a settle lets everything happen that is due. An apply adds journals and
+    /// Does what the event of a line says, which has happened then. A publish is refused or answered, and lands at the end
+    /// of its journal where the answer says so; a settle lets everything happen that is due. An apply adds journals and
     /// shards, or replaces those of its names, a member joins, and a member's lease ends: each of these tells
     /// nothing, or is refused, which changes nothing else. Specifications change nothing: they start a world. After
     /// NoMemory the world isn't used again.
-    #[tactic(auto, using(crate::proofs::Ready::after_specified))]
+    #[tactic(auto, using(crate::proofs::Happened::run_specified, crate::proofs::Happened::happened, crate::proofs::Happened::run_after))]
     pub fn apply(&mut self, alloc: Global, line: u64, event: &Event) -> Result<Applied, NoMemory>
         requires lawful { IsTrue (is_event event.now) }
-        requires specified { IsSpecified self.old.specs self.old.cluster }
-        ensures applied { IfOk result (λ applied. applied ≡ applied_of event.now self.old) }
+        requires run { IsRun self.old }
+        ensures applied { IfOk result (λ applied. applied ≡ applied_of line event.now self.old) }
         ensures after { OnOk result (self.new ≡ after line event.now self.old) }
-        ensures specified { OnOk result (IsSpecified self.new.specs self.new.cluster) }
+        ensures run { OnOk result (IsRun self.new) }
     {
         let applied = self.take(alloc, line, event)?;
+        self.events = self.events.and(&line, event);
         Ok(applied)
     }
 

@@ -1,7 +1,7 @@
 use Rattle.std.proofs.Common.{◌≡◌, ◌∙◌, arith, sym, subst, List, ℕ}
 use Rattle.gz_plain.specs.Places.{names_of}
 use Rattle.gz_plain.specs.Running.{AllKept}
-use Rattle.gz_plain.specs.Runs.{Distinct}
+use Rattle.gz_promise.specs.Names.{Distinct}
 use Rattle.gz_plain.specs.declared.shard.Shard.{Shard}
 use Rattle.gz_plain.proofs.Settling.{IsSettling, settle_start, settle_turn, settle_quiet, settle_done}
 use Rattle.gz_plain.proofs.settle.settle_all.Goals as goal

@@ -1,5 +1,5 @@
 use Rattle.std.proofs.Common.{arith}
-use Rattle.gz_spec.specs.Names.{is_id}
+use Rattle.gz_fields.specs.Names.{is_id}
 use Rattle.gz_registry.proofs.Forms.{left, short_id}
 use Rattle.gz_registry.proofs.writes.shard_put.Goals as goal
 

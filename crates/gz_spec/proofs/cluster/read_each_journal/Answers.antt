@@ -1,7 +1,7 @@
 use Rattle.std.proofs.Common.{◌∙◌}
 use Rattle.gz_spec.specs.Journals.{next_journal}
 use Rattle.gz_spec.specs.Specs.{name_of_journal}
-use Rattle.gz_spec.proofs.Eachs.{each_turn}
+use Rattle.gz_fields.proofs.Eachs.{each_turn}
 use Rattle.gz_spec.proofs.cluster.read_each_journal.Goals as goal
 
 pub loop-i-preserved : goal.loop-i-preserved

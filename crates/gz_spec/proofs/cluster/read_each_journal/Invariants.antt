@@ -1,7 +1,7 @@
 use Rattle.std.proofs.Common.{◌≡◌, drop, []}
 use Rattle.serde_json.specs.View.{items_view}
-use Rattle.gz_spec.specs.Behind.{behind}
-use Rattle.gz_spec.specs.Lists.{each}
+use Rattle.gz_fields.specs.Behind.{behind}
+use Rattle.gz_fields.specs.Lists.{each}
 use Rattle.gz_spec.specs.Journals.{next_journal}
 use Rattle.gz_spec.specs.Specs.{name_of_journal}
 use Rattle.gz_spec.proofs.cluster.read_each_journal.Given as goal

@@ -1,7 +1,7 @@
 use Rattle.std.proofs.Common.{◌∙◌}
 use Rattle.gz_spec.specs.Members.{next_member}
 use Rattle.gz_spec.specs.Specs.{id_of_member}
-use Rattle.gz_spec.proofs.Eachs.{each_turn, more_names}
+use Rattle.gz_fields.proofs.Eachs.{each_turn, more_names}
 use Rattle.gz_spec.proofs.cluster.read_each_member.Goals as goal
 
 pub loop-i-preserved : goal.loop-i-preserved

@@ -1,7 +1,7 @@
 use Rattle.std.proofs.Common.{◌≡◌, ◌++◌, drop, map}
 use Rattle.serde_json.specs.View.{items_view}
-use Rattle.gz_spec.specs.Behind.{behind}
-use Rattle.gz_spec.specs.Lists.{each}
+use Rattle.gz_fields.specs.Behind.{behind}
+use Rattle.gz_fields.specs.Lists.{each}
 use Rattle.gz_spec.specs.Members.{next_member}
 use Rattle.gz_spec.specs.Specs.{id_of_member}
 use Rattle.gz_spec.proofs.cluster.read_each_member.Given as goal

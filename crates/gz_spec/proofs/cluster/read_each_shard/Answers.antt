@@ -1,7 +1,7 @@
 use Rattle.std.proofs.Common.{◌∙◌}
 use Rattle.gz_spec.specs.Shards.{next_shard}
 use Rattle.gz_spec.specs.Specs.{id_of_shard}
-use Rattle.gz_spec.proofs.Eachs.{each_turn}
+use Rattle.gz_fields.proofs.Eachs.{each_turn}
 use Rattle.gz_spec.proofs.cluster.read_each_shard.Goals as goal
 
 pub loop-i-preserved : goal.loop-i-preserved

@@ -1,7 +1,7 @@
 use Rattle.std.proofs.Common.{◌≡◌, drop, []}
 use Rattle.serde_json.specs.View.{items_view}
-use Rattle.gz_spec.specs.Behind.{behind}
-use Rattle.gz_spec.specs.Lists.{each}
+use Rattle.gz_fields.specs.Behind.{behind}
+use Rattle.gz_fields.specs.Lists.{each}
 use Rattle.gz_spec.specs.Shards.{next_shard}
 use Rattle.gz_spec.specs.Specs.{id_of_shard}
 use Rattle.gz_spec.proofs.cluster.read_each_shard.Given as goal

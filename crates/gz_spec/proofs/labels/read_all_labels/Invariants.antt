@@ -1,6 +1,6 @@
 use Rattle.std.proofs.Common.{◌≡◌}
 use Rattle.serde_json.specs.View.{members_view}
-use Rattle.gz_spec.specs.Behind.{behind}
+use Rattle.gz_fields.specs.Behind.{behind}
 use Rattle.gz_spec.specs.Labels.{all_labels}
 use Rattle.gz_spec.proofs.labels.read_all_labels.Given as goal
 

@@ -1,6 +1,6 @@
 use Rattle.std.proofs.Common.{◌≡◌, drop}
 use Rattle.serde_json.specs.View.{items_view}
-use Rattle.gz_spec.specs.Behind.{behind}
+use Rattle.gz_fields.specs.Behind.{behind}
 use Rattle.gz_spec.specs.Labels.{labels_from}
 use Rattle.gz_spec.proofs.labels.read_values.Given as goal
 

@@ -1,6 +1,6 @@
 use Rattle.std.proofs.Common.{◌∙◌}
 use Rattle.gz_spec.specs.Shards.{next_source, journal_named}
-use Rattle.gz_spec.proofs.Eachs.{each_turn}
+use Rattle.gz_fields.proofs.Eachs.{each_turn}
 use Rattle.gz_spec.proofs.source.read_each_source.Goals as goal
 
 pub loop-i-preserved : goal.loop-i-preserved

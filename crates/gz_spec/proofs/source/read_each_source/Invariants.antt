@@ -1,7 +1,7 @@
 use Rattle.std.proofs.Common.{◌≡◌, drop, []}
 use Rattle.serde_json.specs.View.{items_view}
-use Rattle.gz_spec.specs.Behind.{behind}
-use Rattle.gz_spec.specs.Lists.{each}
+use Rattle.gz_fields.specs.Behind.{behind}
+use Rattle.gz_fields.specs.Lists.{each}
 use Rattle.gz_spec.specs.Shards.{next_source, journal_named}
 use Rattle.gz_spec.proofs.source.read_each_source.Given as goal
 

@@ -1,6 +1,6 @@
 use Rattle.std.proofs.Common.{◌≤◌, ◌-◌}
 use Rattle.gz_model.specs.Told.{ahead}
-use Rattle.gz_world.specs.Starts.{IsSpecified}
+use Rattle.gz_world.specs.Worlds.{IsRun}
 use Rattle.gz_world.specs.Told.{GoesOn}
 use Rattle.gz_world.proofs.replays.go_on.Given as goal
 
@@ -9,7 +9,7 @@ invariant-lines g l =
     let source = g.S.Source in
     record {
       goes_on : GoesOn (ahead l.fn.reader (source.left l.fn.input)) (ahead l.reader (source.left l.input)) l.first l.fn.world l.number l.before l.world;
-      specified : IsSpecified l.world.specs l.world.cluster;
+      run : IsRun l.world;
       few : l.number ≤ 65537;
       short : l.before ≤ 134217728;
       faults_stay : source.faults l.fn.input ≤ source.faults l.input;

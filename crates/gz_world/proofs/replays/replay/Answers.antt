@@ -21,7 +21,7 @@ returns-in_err-next-clause-refused g c = λ refusal is.
 pub go_on-requires : goal.go_on-requires
 go_on-requires g c =
     let judged = rw c.as_slice.ensures at c.in_ok-world.ensures.gives in
-    record { first = rw c.len-first.ensures (first_short _ _ judged); specified = c.in_ok-world.ensures.specified }
+    record { first = rw c.len-first.ensures (first_short _ _ judged); run = c.in_ok-world.ensures.run }
 
 pub returns-clause-done : goal.returns-clause-done
 returns-clause-done g c =

@@ -1,7 +1,7 @@
 use Rattle.std.proofs.Common.{◌≡◌, ◌∙◌, sym, subst, ap, List, ℕ}
 use Rattle.gz_plain.specs.Journals.{Journal, appended, appended_at}
 use Rattle.gz_plain.specs.Places.{names_of}
-use Rattle.gz_plain.specs.Runs.{Distinct}
+use Rattle.gz_promise.specs.Names.{Distinct}
 use Rattle.gz_plain.proofs.Places.{appended_is, distinct_stay}
 use Rattle.gz_plain.proofs.Stepping.{kept_appended}
 use Rattle.gz_plain.proofs.cluster.Cluster.append.Goals as goal

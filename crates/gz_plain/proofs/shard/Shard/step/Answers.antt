@@ -1,6 +1,6 @@
 use Rattle.std.proofs.Common.{◌≡◌, ◌++◌, ◌+◌, ◌<◌, ◌^◌, ◌∙◌, List, [], length, nat_lt, ap, sym, subst, arith}
 use Rattle.gz_frame.specs.Messages.{Message}
-use Rattle.gz_plain.specs.Applications.{put_out}
+use Rattle.gz_promise.specs.Applications.{emitted}
 use Rattle.gz_plain.specs.Journals.{Journal}
 use Rattle.gz_plain.specs.Readers.{all_news}
 use Rattle.gz_plain.specs.Running.{IsCommitted, IsKept, read_further, read_up}
@@ -73,7 +73,7 @@ returns-clause-step c =
     let t : IsStepped js s c.commit.new.journals c.in_ok-shard-3.shard =
     stepped_commit js c.commit.new.journals s c.in_ok-shard-3.shard ms is c.requires.kept c.if-self.false (some_of ms c.is_empty.result c.is_empty.ensures c.if-is_empty.false)
     (ap (λ (x : Shard). nat_lt (x.producer.last + length ms + 1) (2 ^ 64)) (sym same) ∙ sym c.has_room.ensures ∙ c.if-not-has_room.false)
-    (c.in_ok-shard-3.ensures.journals ∙ ap (λ (x : Shard). journals_after (shard_of x) (put_out x.app x.store ms) js) same)
+    (c.in_ok-shard-3.ensures.journals ∙ ap (λ (x : Shard). journals_after (shard_of x) (emitted x.app x.store ms) js) same)
     (subst (λ (x : Shard). IsCommitted x ms c.in_ok-shard-3.shard) same c.in_ok-shard-3.ensures.shard) in
     t.is
 
@@ -88,6 +88,6 @@ returns-clause-kept c =
     let t : IsStepped js s c.commit.new.journals c.in_ok-shard-3.shard =
     stepped_commit js c.commit.new.journals s c.in_ok-shard-3.shard ms is c.requires.kept c.if-self.false (some_of ms c.is_empty.result c.is_empty.ensures c.if-is_empty.false)
     (ap (λ (x : Shard). nat_lt (x.producer.last + length ms + 1) (2 ^ 64)) (sym same) ∙ sym c.has_room.ensures ∙ c.if-not-has_room.false)
-    (c.in_ok-shard-3.ensures.journals ∙ ap (λ (x : Shard). journals_after (shard_of x) (put_out x.app x.store ms) js) same)
+    (c.in_ok-shard-3.ensures.journals ∙ ap (λ (x : Shard). journals_after (shard_of x) (emitted x.app x.store ms) js) same)
     (subst (λ (x : Shard). IsCommitted x ms c.in_ok-shard-3.shard) same c.in_ok-shard-3.ensures.shard) in
     t.kept

@@ -1,5 +1,6 @@
-use Rattle.gz_world.proofs.Ready.{start_specified}
+use Rattle.std.proofs.Common.{rules}
+use Rattle.gz_world.proofs.Happened.{start_run}
 use Rattle.gz_world.proofs.world.World.start.Goals as goal
 
-pub returns-clause-specified : goal.returns-clause-specified
-returns-clause-specified c = rw c.in_ok-cluster.ensures (start_specified c.args.specs c.requires)
+pub returns-clause-run : goal.returns-clause-run
+returns-clause-run c = start_run c.args.specs _ c.requires (search rules)

@@ -1,0 +1,5 @@
+pub mod Releases
+pub mod Listed
+pub mod Folds
+pub mod Accounts
+pub mod ReadBack

@@ -1,0 +1,5 @@
+pub mod Orders
+pub mod Refused
+pub mod BySource
+pub mod Clients
+pub mod Counts

@@ -1,6 +1,0 @@
-use Rattle.std.proofs.Common.{◌≡◌}
-use Rattle.gz_spec.specs.Cycles.{closed}
-use Rattle.gz_spec.proofs.cycles.closed.Given as goal
-
-abbrev pub invariant-loop-m : goal.invariant-loop-m
-invariant-loop-m l = l.rows ≡ closed l.m l.fn.fed

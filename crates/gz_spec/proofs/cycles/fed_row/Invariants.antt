@@ -1,6 +1,0 @@
-use Rattle.std.proofs.Common.{◌≡◌, ◌++◌, drop, map}
-use Rattle.gz_spec.specs.Cycles.{feeds}
-use Rattle.gz_spec.proofs.cycles.fed_row.Given as goal
-
-abbrev pub invariant-loop-other : goal.invariant-loop-other
-invariant-loop-other l = l.bits.items ++ map (λ t. feeds l.shard t) (drop l.other-index l.shards) ≡ map (λ t. feeds l.shard t) l.shards

@@ -1,6 +1,0 @@
-use Rattle.std.proofs.Common.{◌≡◌, drop}
-use Rattle.gz_spec.specs.Levels.{level_of, all_climb}
-use Rattle.gz_spec.proofs.levels.all_climb.Given as goal
-
-abbrev pub invariant-loop-shard : goal.invariant-loop-shard
-invariant-loop-shard l = all_climb (level_of l.journals.keys l.levels) (drop l.shard-index l.shards) ≡ all_climb (level_of l.journals.keys l.levels) l.shards

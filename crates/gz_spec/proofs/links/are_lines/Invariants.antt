@@ -1,9 +1,0 @@
-use Rattle.std.proofs.Common.{◌≡◌, drop, codes}
-use Rattle.std.specs.List.{list_all}
-use Rattle.gz_label.specs.Labels.{values_of}
-use Rattle.gz_spec.specs.Links.{held, is_lines}
-use Rattle.gz_spec.proofs.links.are_lines.Given as goal
-
-abbrev pub invariant-loop-label : goal.invariant-loop-label
-invariant-loop-label l =
-    list_all (λ o. is_lines (held l.journals o)) (values_of (codes "output") (drop l.label-index l.labels)) ≡ list_all (λ o. is_lines (held l.journals o)) (values_of (codes "output") l.labels)

@@ -1,6 +1,0 @@
-use Rattle.std.proofs.Common.{◌≡◌, drop}
-use Rattle.gz_spec.specs.Links.{sources_linked}
-use Rattle.gz_spec.proofs.links.refuse_sources.Given as goal
-
-abbrev pub invariant-loop-k : goal.invariant-loop-k
-invariant-loop-k l = sources_linked l.journals l.path l.k (drop l.k l.sources) ≡ sources_linked l.journals l.path 0 l.sources

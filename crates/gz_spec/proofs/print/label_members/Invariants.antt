@@ -1,7 +1,0 @@
-use Rattle.std.proofs.Common.{◌≡◌, ◌-◌, drop, length}
-use Rattle.serde_json.specs.View.{members_view}
-use Rattle.gz_spec.specs.Printed.{label_members}
-use Rattle.gz_spec.proofs.print.label_members.Given as goal
-
-abbrev pub invariant-loop-i : goal.invariant-loop-i
-invariant-loop-i l = members_view l.members.entries ≡ label_members (drop (length l.labels - l.i) l.labels)

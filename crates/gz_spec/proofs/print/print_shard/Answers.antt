@@ -1,6 +1,0 @@
-use Rattle.gz_spec.proofs.SpecsBack.{shard_back}
-use Rattle.gz_spec.proofs.print.print_shard.Goals as goal
-
-pub returns-clause-reads_back : goal.returns-clause-reads_back
-returns-clause-reads_back c =
-    shard_back c.args.shard.now _ _ c.in_ok-value.ensures c.in_ok-text.ensures.reads_back (rw (← c.shard.view_is) c.shard.invariant)

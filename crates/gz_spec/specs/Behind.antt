@@ -1,7 +1,0 @@
--- What is read behind a front that was read before.
-use Rattle.std.specs.Prelude.{List, ◌++◌, Result, Ok}
-use Rattle.gz_model.specs.Steps.{◌>>=◌}
-use Rattle.gz_spec.specs.declared.error.SpecError.{SpecError}
-
-abbrev pub behind : {A : Type 0} → List A → Result (List A) SpecError → Result (List A) SpecError
-behind front read = read >>= λ rest. Ok (front ++ rest)

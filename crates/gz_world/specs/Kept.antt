@@ -1,0 +1,17 @@
+-- What is promised of the world of a run.
+use Rattle.gz_plain.specs.Promise.{AllExactlyOnce}
+use Rattle.gz_plain.specs.Order.{AllRest}
+use Rattle.gz_plain.specs.Reports.{AllTellCaught, AllUpToDate}
+use Rattle.gz_world.specs.Worlds.{World, IsRun, settled}
+
+pub record KeepsPromise (w : World) : Type 0 where
+  -- it is what its events made of the specifications that it began with
+  pub run : IsRun w
+  -- each shard that kept its definition is exactly once, and nothing is missing at the readers of its outputs
+  pub once : AllExactlyOnce w.cluster.journals w.cluster.shards
+  -- a settle ends with each of these shards at rest
+  pub rests : AllRest (settled w).cluster.journals (settled w).cluster.shards
+  -- each of them is told `caught` exactly where nothing that its sources have committed is left to read
+  pub told : AllTellCaught w.cluster.journals w.cluster.shards
+  -- and none is behind after a settle: it is caught, disabled, or has no clocks left
+  pub settled_told : AllUpToDate (settled w).cluster.journals (settled w).cluster.shards
