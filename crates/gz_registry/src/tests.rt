@@ -37,7 +37,7 @@ fn broker(alloc: Global, id: &[u8]) -> Result<Joined, Fail> {
 
 // The revision of the change that put the key, and 0 where it is absent.
 fn revision_of(alloc: Global, registry: &Registry, key: &str) -> Result<u64, Fail> {
-    match registry.get(&Name::of(alloc, key)?) {
+    match registry.get(&Name::read(alloc, key.as_bytes())?) {
         None => Ok(0),
         Some((_, revision)) => Ok(revision),
     }
