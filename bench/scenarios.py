@@ -1,6 +1,6 @@
 """Scenarios of any size, and what the program has to say of them.
 
-A work's function writes a scenario of about so many messages, and answers how many lines and messages it has and
+A workload's function writes a scenario of about so many messages, and answers how many lines and messages it has and
 what its report has to end with.
 """
 import json

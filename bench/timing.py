@@ -6,7 +6,7 @@ import time
 
 TOP = os.path.dirname(os.path.dirname(os.path.abspath(__file__)))
 
-# whether only the least size of each work is done, once, to see that the bench runs
+# whether only the least size of each workload is done, once, to see that the bench runs
 SHORT = "--short" in sys.argv[1:]
 if SHORT:
     sys.argv.remove("--short")
@@ -48,7 +48,7 @@ def finish(pid):
 
 
 def run_seconds(words, path, out_path):
-    """The seconds from start to end, and those for which a processor worked."""
+    """The seconds from start to end, and those for which a CPU worked."""
     begin = time.monotonic()
     usage = finish(start(words, path, out_path))
     return time.monotonic() - begin, usage.ru_utime + usage.ru_stime
