@@ -1,5 +1,5 @@
 use Rattle.std.proofs.Common.{arith, refl}
-use Rattle.gz_spool.proofs.heads_stay_within.Goals as goal
+use Rattle.gz_spool.proofs.laws.heads_stay_within.Goals as goal
 
 pub returns-clause-rises : goal.returns-clause-rises
 returns-clause-rises c = λ head i. omega arith
