@@ -1,0 +1,18 @@
+//! Why bytes are no message, or a message has no spelling.
+
+/// Why a message has no spelling, or bytes begin with none.
+#[derive(Clone, Copy, Debug, PartialEq, Eq)]
+pub enum WireError {
+    /// The body has more than 134,217,728 bytes, or its length says so.
+    TooLong,
+    /// There are fewer than the four bytes of the length, or fewer behind them than it says.
+    NeedMore,
+    /// The field of this number, counted from 1, is the first that isn't spelled by its kind in a message with this
+    /// tag; the number after the last one stands for bytes that are left. The name of the peer is field 0 of tag 0,
+    /// and a body that ends behind it lacks field 1 of tag 0.
+    BadField { tag: u8, field: u8 },
+    /// No kind of message has the tag.
+    BadTag { tag: u8 },
+    /// Memory ran out.
+    NoMemory,
+}
