@@ -1,0 +1,4 @@
+pub mod Strangers
+pub mod Rows
+mod Order
+mod Kept

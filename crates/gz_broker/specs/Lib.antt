@@ -1,0 +1,9 @@
+pub mod Brokers
+pub mod Closing
+pub mod Taking
+pub mod Judging
+pub mod Appending
+pub mod Persisting
+pub mod Reading
+pub mod Resuming
+pub mod Step
