@@ -56,10 +56,10 @@ upto_all g k n (m ∷ t) l = cond_both (leb (reach g k (m ∷ t)) n) _ _ (λ v. 
 upto_less : (g : App) (k n : ℕ) (m : Message) (t : List Message) → n < reach g k (m ∷ t) → upto g k n (m ∷ t) ≡ upto g k n t
 upto_less g k n m t l = cond_both (leb (reach g k (m ∷ t)) n) _ _ (λ v. v ≡ upto g k n t) (λ e. absurd (let h = leb-true (reach g k (m ∷ t)) n e in omega arith)) (λ _. refl)
 
-drop_front : {A : Type 0} (xs ys zs : List A) → IsPrefix xs ys → drop (length xs) (ys ++ zs) ≡ drop (length xs) ys ++ zs
-drop_front [] ys zs p = refl
-drop_front (x ∷ xs) [] zs p = absurd (let l : length ((x ∷ xs) ++ p.0) ≡ 0 = ap length p.1 in omega arith)
-drop_front (x ∷ xs) (y ∷ ys) zs p = drop_front xs ys zs (p.0, tail_same p.1)
+drop_prefix : {A : Type 0} (xs ys zs : List A) → IsPrefix xs ys → drop (length xs) (ys ++ zs) ≡ drop (length xs) ys ++ zs
+drop_prefix [] ys zs p = refl
+drop_prefix (x ∷ xs) [] zs p = absurd (let l : length ((x ∷ xs) ++ p.0) ≡ 0 = ap length p.1 in omega arith)
+drop_prefix (x ∷ xs) (y ∷ ys) zs p = drop_prefix xs ys zs (p.0, tail_same p.1)
   where
     tail_same : (x ∷ (xs ++ p.0)) ≡ y ∷ ys → xs ++ p.0 ≡ ys
     tail_same e = cc
@@ -108,7 +108,7 @@ module _ (n : Numbers) (g : App) (k : ℕ) where
       let whole : upto g k to t ≡ t = upto_all g k to t (omega arith) in
       let news : map n.message_of (newly m t) ≡ released_in R = sym (messages_alone n.message_of (reach g k (m ∷ t)) (newly m t)) in
       let split : drop (length F) (committed (m ∷ t)) ≡ drop (length F) (committed t) ++ newly m t =
-      ap (λ (v : List Message). drop (length F) v) (sym (newly_is m t)) ∙ drop_front F (committed t) (newly m t) (commits_more (upto g k from t) t (upto_begins g k from t)) in
+      ap (λ (v : List Message). drop (length F) v) (sym (newly_is m t)) ∙ drop_prefix F (committed t) (newly m t) (commits_more (upto g k from t) t (upto_begins g k from t)) in
       ap (λ (rs : List Release). released_in rs) (filter-append (is_between from to) (releases_of n g k t) R ∙ ap (λ (rs : List Release). filter (is_between from to) (releases_of n g k t) ++ rs) (ends_in n.message_of from to (reach g k (m ∷ t)) (newly m t) low high))
       ∙ map-append (λ r. r.message) (filter (is_between from to) (releases_of n g k t)) R
       ∙ ap (λ (v : List frame.Message). v ++ released_in R) ih

@@ -25,6 +25,7 @@ pub fn any_numbers_will_do()
 #[tactic(auto, using(crate::proofs::ReadBack::read_back, crate::proofs::ReadBack::message_back, crate::proofs::ReadBack::producers_apart))]
 pub fn numbers_are_read_back()
     ensures shard { AreReadBack plain_numbers }
-    ensures message { (m : frame.Message) → m.flags ≤ 2 → plain_numbers.message_of (coded told_by_numbers m) ≡ m }
+    ensures message { (m : frame.Message) → m.flags ≤ 2 →
+        plain_numbers.message_of (coded told_by_numbers m) ≡ m }
     ensures producer { TellsProducers told_by_numbers }
 {}

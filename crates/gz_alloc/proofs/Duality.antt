@@ -5,12 +5,6 @@ use Rattle.gz_alloc.specs.Sums.{when, sum_to, count_to}
 use Rattle.gz_alloc.specs.Flow.{Net, IsNet, Cells, Keeps, items, members, replicas, limit, zone, row, in_zone, zone_bound, total, free, is_zone, is_uncut, zones_charge, capacity}
 use Rattle.gz_alloc.proofs.SumLemmas.{sum_to_le, sum_to_eq, sum_to_add, sum_to_none, sum_to_zero, sum_to_swap, sum_to_one}
 
--- what passes a stronger test is less
-pub when_le : (a b : Bool) (v : ℕ) → (a ≡ true → b ≡ true) → when a v ≤ when b v
-when_le true true v h = omega arith
-when_le true false v h = let e : false ≡ true = h refl in cc
-when_le false b v h = omega arith
-
 pub when_true : (a : Bool) (v : ℕ) → a ≡ true → when a v ≡ v
 when_true a v h = ap (λ t. when t v) h
 

@@ -20,13 +20,6 @@ pub all_to_at : (n : ℕ) (p : ℕ → Bool) → all_to n p ≡ true → (i : �
 all_to_at zero p h i lt = absurd (omega arith)
 all_to_at (suc n) p h i lt = ⊎_elim (λ (here : i ≡ n). ap p here ∙ (and_parts (all_to n p) (p n) h).1) (λ (ne : i ≢ n). all_to_at n p ((and_parts (all_to n p) (p n) h).0) i (omega arith)) (cases_eq i n)
 
-pub all_to_more : (n : ℕ) (p : ℕ → Bool) → all_to n p ≡ true → p n ≡ true → all_to (n + 1) p ≡ true
-all_to_more n p h e = rw add-one (both (all_to n p) (p n) h e)
-  where
-    both : (a b : Bool) → a ≡ true → b ≡ true → (a && b) ≡ true
-    both true b p q = q
-    both false b p q = p
-
 -- names that are the same are equal
 pub same_equal : (a b : List ℕ) → same a b ≡ true → a ≡ b
 same_equal a b h = (bytes_decides a b).0 h

@@ -240,11 +240,11 @@ pairs_feasible asked ok x keeps = (record { known = pairs_known asked ok x; keep
 pub size_of_pairs : (asked : Asked) → is_problem asked ≡ true → (x : Cells) → size asked (pairs_of asked x) ≡ total (net_of asked) x
 size_of_pairs asked ok x = sym (agree_total (net_of asked) x (paired asked (pairs_of asked x)) (pairs_agree asked ok x))
 
-pub picks_pushed : {A : Type 0} (front now : List A) (n : ℕ) (p : ℕ → Bool) (f : ℕ → A) → p n ≡ true → now ≡ front ++ picks n p f → now ++ f n ∷ [] ≡ front ++ picks (n + 1) p f
-picks_pushed front now n p f h e = ap (λ l. l ++ f n ∷ []) e ∙ append_assoc front (picks n p f) (f n ∷ []) ∙ ap (λ l. front ++ l) (sym (picks_more n p f ∙ ap (λ b. picks n p f ++ (if b then f n ∷ [] else [])) h))
+pub picks_pushed : {A : Type 0} (prefix now : List A) (n : ℕ) (p : ℕ → Bool) (f : ℕ → A) → p n ≡ true → now ≡ prefix ++ picks n p f → now ++ f n ∷ [] ≡ prefix ++ picks (n + 1) p f
+picks_pushed prefix now n p f h e = ap (λ l. l ++ f n ∷ []) e ∙ append_assoc prefix (picks n p f) (f n ∷ []) ∙ ap (λ l. prefix ++ l) (sym (picks_more n p f ∙ ap (λ b. picks n p f ++ (if b then f n ∷ [] else [])) h))
 
-pub picks_passed : {A : Type 0} (front now : List A) (n : ℕ) (p : ℕ → Bool) (f : ℕ → A) → p n ≡ false → now ≡ front ++ picks n p f → now ≡ front ++ picks (n + 1) p f
-picks_passed front now n p f h e = e ∙ ap (λ l. front ++ l) (sym (picks_more n p f ∙ ap (λ b. picks n p f ++ (if b then f n ∷ [] else [])) h ∙ append_nil (picks n p f)))
+pub picks_passed : {A : Type 0} (prefix now : List A) (n : ℕ) (p : ℕ → Bool) (f : ℕ → A) → p n ≡ false → now ≡ prefix ++ picks n p f → now ≡ prefix ++ picks (n + 1) p f
+picks_passed prefix now n p f h e = e ∙ ap (λ l. prefix ++ l) (sym (picks_more n p f ∙ ap (λ b. picks n p f ++ (if b then f n ∷ [] else [])) h ∙ append_nil (picks n p f)))
   where
     append_nil : {A : Type 0} (l : List A) → l ++ [] ≡ l
     append_nil [] = refl

@@ -27,13 +27,6 @@ agree_less net x y i m k l le p j n lj ln h = p j n lj ln (shorter (64 * j + n) 
     shorter : (a b c : ℕ) → a < b → b ≤ c → a < c
     shorter a b c p q = omega arith
 
--- past the last member of an item comes the next item
-pub agree_row : (net : Net) (x y : Cells) (i m : ℕ) → IsNet net → members net ≤ m → AgreeBefore net x y i m → AgreeBefore net x y (i + 1) 0
-agree_row net x y i m ok le p j n lj ln h = p j n lj ln (within j n (members net) ln ok.few_members le h)
-  where
-    within : (j n k : ℕ) → n < k → k ≤ 64 → k ≤ m → 64 * j + n < 64 * (i + 1) + 0 → 64 * j + n < 64 * i + m
-    within j n k p q r s = omega arith
-
 -- past the last item all is said
 pub agree_all : (net : Net) (x y : Cells) (i m : ℕ) → IsNet net → items net ≤ i → AgreeBefore net x y i m → Agree net x y
 agree_all net x y i m ok le p j n lj ln = p j n lj ln (within j n (items net) (members net) lj ln ok.few_members le)
@@ -71,9 +64,6 @@ most_of_one net x i m n ok le most y keeps agree = subst (λ k. k ≤ n) (agree_
   where
     same : Agree net x y
     same = agree_all net x y i m ok le agree
-
-pub most_of_row : (net : Net) (x : Cells) (i m n : ℕ) → IsNet net → members net ≤ m → IsMostOf net x (i + 1) 0 n → IsMostOf net x i m n
-most_of_row net x i m n ok le most y keeps agree = most y keeps (agree_row net x y i m ok le agree)
 
 -- what stands before a written pair is kept
 pub kept : (net : Net) (f g : List Bool) (i m : ℕ) (b : Bool) → AgreeBefore net (cells_of (set_cell f i m b)) (cells_of g) i (m + 1) → AgreeBefore net (cells_of f) (cells_of g) i m

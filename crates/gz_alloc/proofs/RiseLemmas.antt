@@ -13,7 +13,7 @@ use Rattle.std.proofs.lemmas.Bool.{and_parts, and_from, ltb-true, lt-ltb}
 use Rattle.gz_alloc.specs.Sums.{when, all_to}
 use Rattle.gz_alloc.specs.Flow.{IsTable, Cells, items, members, row, total, cells_of, set_cell}
 use Rattle.gz_alloc.specs.Names.{Asked, net_of, is_problem, is_known, item_names, member_names, place_of, name_at, same, rises, paired, size, mark_pair, mark_pairs, picks, gather, pairs_of}
-use Rattle.gz_alloc.specs.Rising.{pair_order, pair_at, below_next, rising}
+use Rattle.gz_alloc.specs.Ascending.{pair_order, pair_at, below_next, ascending}
 use Rattle.gz_alloc.proofs.SumLemmas.{sum_to_zero}
 use Rattle.gz_alloc.proofs.Counts.{total_at, differs_set}
 use Rattle.gz_alloc.proofs.NameLemmas.{less_from, all_to_at, asked_facts, net_ok, rise_apart, place_same, same_equal}
@@ -32,9 +32,9 @@ IsAbove p [] = ⊤
 IsAbove p (q ∷ qs) = (pair_order p q ≡ Less) × IsAbove p qs
 
 -- each pair is above those before it
-abbrev pub IsRising : List Pair → Type 0
-IsRising [] = ⊤
-IsRising (p ∷ ps) = IsAbove p ps × IsRising ps
+abbrev pub IsAscending : List Pair → Type 0
+IsAscending [] = ⊤
+IsAscending (p ∷ ps) = IsAbove p ps × IsAscending ps
 
 -- ---- the order of pairs
 
@@ -55,11 +55,11 @@ next : (k : ℕ) → k + 1 ≡ suc k
 next k = omega arith
 
 -- pairs rise where each is below the next
-rising_by_steps : (ps : List Pair) → ((k : ℕ) → suc k < length ps → pair_order (pair_at ps k) (pair_at ps (suc k)) ≡ Less) → IsRising ps
-rising_by_steps [] each = tt
-rising_by_steps (p ∷ []) each = (tt, tt)
-rising_by_steps (p ∷ q ∷ qs) each =
-    let rest = rising_by_steps (q ∷ qs) (λ k lt. each (suc k) (omega (arith, lt))) in
+ascending_by_steps : (ps : List Pair) → ((k : ℕ) → suc k < length ps → pair_order (pair_at ps k) (pair_at ps (suc k)) ≡ Less) → IsAscending ps
+ascending_by_steps [] each = tt
+ascending_by_steps (p ∷ []) each = (tt, tt)
+ascending_by_steps (p ∷ q ∷ qs) each =
+    let rest = ascending_by_steps (q ∷ qs) (λ k lt. each (suc k) (omega (arith, lt))) in
     let here : pair_order p q ≡ Less = each 0 (omega arith) in ((here, above_all p q qs here rest.0), rest)
 
 above_at : (p : Pair) (ps : List Pair) (k : ℕ) → IsAbove p ps → k < length ps → pair_order p (pair_at ps k) ≡ Less
@@ -67,14 +67,14 @@ above_at p [] k above lt = absurd (omega (arith, lt))
 above_at p (q ∷ qs) zero above lt = above.0
 above_at p (q ∷ qs) (suc k) above lt = above_at p qs k above.1 (omega (arith, lt))
 
-rising_step : (ps : List Pair) (k : ℕ) → IsRising ps → suc k < length ps → pair_order (pair_at ps k) (pair_at ps (suc k)) ≡ Less
-rising_step [] k up lt = absurd (omega (arith, lt))
-rising_step (p ∷ ps) zero up lt = above_at p ps 0 up.0 (omega (arith, lt))
-rising_step (p ∷ ps) (suc k) up lt = rising_step ps k up.1 (omega (arith, lt))
+ascending_step : (ps : List Pair) (k : ℕ) → IsAscending ps → suc k < length ps → pair_order (pair_at ps k) (pair_at ps (suc k)) ≡ Less
+ascending_step [] k up lt = absurd (omega (arith, lt))
+ascending_step (p ∷ ps) zero up lt = above_at p ps 0 up.0 (omega (arith, lt))
+ascending_step (p ∷ ps) (suc k) up lt = ascending_step ps k up.1 (omega (arith, lt))
 
 -- the test says that pairs rise
-pub rising_facts : (ps : List Pair) → rising ps ≡ true → IsRising ps
-rising_facts ps h = rising_by_steps ps (λ k lt. subst (λ j. pair_order (pair_at ps k) (pair_at ps j) ≡ Less) (next k) (less_from (pair_order (pair_at ps k) (pair_at ps (k + 1)))
+pub ascending_facts : (ps : List Pair) → ascending ps ≡ true → IsAscending ps
+ascending_facts ps h = ascending_by_steps ps (λ k lt. subst (λ j. pair_order (pair_at ps k) (pair_at ps j) ≡ Less) (next k) (less_from (pair_order (pair_at ps k) (pair_at ps (k + 1)))
     (on (nat_lt (k + 1) (length ps)) (is_lt (pair_order (pair_at ps k) (pair_at ps (k + 1)))) (lt-ltb (k + 1) (length ps) (omega (arith, lt))) (all_to_at (length ps) (below_next ps) h k (omega (arith, lt))))))
   where
     on : (a b : Bool) → a ≡ true → cond a b true ≡ true → b ≡ true
@@ -85,14 +85,14 @@ all_to_each : (n : ℕ) (p : ℕ → Bool) → ((k : ℕ) → k < n → p k ≡ 
 all_to_each zero p h = refl
 all_to_each (suc n) p h = and_from (all_to n p) (p n) (all_to_each n p (λ k lt. h k (omega arith))) (h n (omega arith))
 
-rises_next : (ps : List Pair) → IsRising ps → (k : ℕ) (b : Bool) → nat_lt (k + 1) (length ps) ≡ b → cond b (is_lt (pair_order (pair_at ps k) (pair_at ps (k + 1)))) true ≡ true
+rises_next : (ps : List Pair) → IsAscending ps → (k : ℕ) (b : Bool) → nat_lt (k + 1) (length ps) ≡ b → cond b (is_lt (pair_order (pair_at ps k) (pair_at ps (k + 1)))) true ≡ true
 rises_next ps h k true e =
     let within : k + 1 < length ps = ltb-true (k + 1) (length ps) e in
-    ap is_lt (subst (λ j. pair_order (pair_at ps k) (pair_at ps j) ≡ Less) (sym (next k)) (rising_step ps k h (omega (arith, within))))
+    ap is_lt (subst (λ j. pair_order (pair_at ps k) (pair_at ps j) ≡ Less) (sym (next k)) (ascending_step ps k h (omega (arith, within))))
 rises_next ps h k false e = refl
 
-pub rising_test : (ps : List Pair) → IsRising ps → rising ps ≡ true
-rising_test ps h = all_to_each (length ps) (below_next ps) (λ k lk. rises_next ps h k (nat_lt (k + 1) (length ps)) refl)
+pub ascending_test : (ps : List Pair) → IsAscending ps → ascending ps ≡ true
+ascending_test ps h = all_to_each (length ps) (below_next ps) (λ k lk. rises_next ps h k (nat_lt (k + 1) (length ps)) refl)
 
 -- ---- how many pairs there are
 
@@ -141,7 +141,7 @@ missing_after asked ok flags p (q ∷ qs) table known above missing =
     )
 
 -- pairs that rise, and aren't in the table, make it as much greater as they are many
-count_marks : (asked : Asked) → is_problem asked ≡ true → (ps : List Pair) (flags : List Bool) → IsTable (net_of asked) flags → list_all (is_known asked) ps ≡ true → IsRising ps → EachMissing asked flags ps →
+count_marks : (asked : Asked) → is_problem asked ≡ true → (ps : List Pair) (flags : List Bool) → IsTable (net_of asked) flags → list_all (is_known asked) ps ≡ true → IsAscending ps → EachMissing asked flags ps →
     total (net_of asked) (cells_of (mark_pairs asked ps flags)) ≡ total (net_of asked) (cells_of flags) + length ps
 count_marks asked ok [] flags table known up missing = plain (total (net_of asked) (cells_of flags))
   where
@@ -161,14 +161,14 @@ count_marks asked ok (p ∷ ps) flags table known up missing =
     join : (a b c d l : ℕ) → a ≡ b + l → b ≡ c → c + 0 ≡ d + 1 → a ≡ d + suc l
     join a b c d l p q r = omega arith
 
--- rising pairs of the problem are as many as it counts
-pub size_is_length : (asked : Asked) → is_problem asked ≡ true → (ps : List Pair) → list_all (is_known asked) ps ≡ true → rising ps ≡ true → size asked ps ≡ length ps
+-- ascending pairs of the problem are as many as it counts
+pub size_is_length : (asked : Asked) → is_problem asked ≡ true → (ps : List Pair) → list_all (is_known asked) ps ≡ true → ascending ps ≡ true → size asked ps ≡ length ps
 size_is_length asked ok ps known up =
     let empty = replicate (64 * items (net_of asked)) false in
     let none : total (net_of asked) (cells_of empty) ≡ 0 = sum_to_zero (items (net_of asked)) (λ i. row (net_of asked) (cells_of empty) i) (λ i li. sum_to_zero (members (net_of asked)) (λ m. when (cells_of empty i m) 1) (λ m lm. ap (λ b. when b 1) (no_cells (64 * items (net_of asked)) i m))) in
     sym (agree_total (net_of asked) (cells_of (mark_pairs asked ps empty)) (paired asked ps) (marks_agree asked ok (net_ok asked ok) ps))
     ∙ from_none (total (net_of asked) (cells_of (mark_pairs asked ps empty))) (total (net_of asked) (cells_of empty)) (length ps)
-    (count_marks asked ok ps empty (length-replicate (64 * items (net_of asked)) false) known (rising_facts ps up) (none_missing asked (64 * items (net_of asked)) ps)) none
+    (count_marks asked ok ps empty (length-replicate (64 * items (net_of asked)) false) known (ascending_facts ps up) (none_missing asked (64 * items (net_of asked)) ps)) none
   where
     from_none : (a b l : ℕ) → a ≡ b + l → b ≡ 0 → a ≡ l
     from_none a b l p q = omega arith
@@ -188,9 +188,9 @@ below_append : (xs ys zs : List Pair) → EachBelow xs zs → EachBelow ys zs �
 below_append [] ys zs a b = b
 below_append (x ∷ xs) ys zs a b = (a.0, below_append xs ys zs a.1 b)
 
-rising_append : (xs ys : List Pair) → IsRising xs → IsRising ys → EachBelow xs ys → IsRising (xs ++ ys)
-rising_append [] ys a b below = b
-rising_append (x ∷ xs) ys a b below = (above_append x xs ys a.0 below.0, rising_append xs ys a.1 b below.1)
+ascending_append : (xs ys : List Pair) → IsAscending xs → IsAscending ys → EachBelow xs ys → IsAscending (xs ++ ys)
+ascending_append [] ys a b below = b
+ascending_append (x ∷ xs) ys a b below = (above_append x xs ys a.0 below.0, ascending_append xs ys a.1 b below.1)
 
 above_picks : (a : Pair) (n : ℕ) (p : ℕ → Bool) (f : ℕ → Pair) → ((k : ℕ) → k < n → pair_order a (f k) ≡ Less) → IsAbove a (picks n p f)
 above_picks a zero p f less = tt
@@ -208,11 +208,11 @@ picks_below (suc n) p f ys each = below_append (picks n p f) (if p n then f n �
     last true = (each n (omega arith), tt)
     last false = tt
 
-picks_rise : (n : ℕ) (p : ℕ → Bool) (f : ℕ → Pair) → ((j k : ℕ) → j < k → k < n → pair_order (f j) (f k) ≡ Less) → IsRising (picks n p f)
+picks_rise : (n : ℕ) (p : ℕ → Bool) (f : ℕ → Pair) → ((j k : ℕ) → j < k → k < n → pair_order (f j) (f k) ≡ Less) → IsAscending (picks n p f)
 picks_rise zero p f less = tt
-picks_rise (suc n) p f less = rising_append (picks n p f) (if p n then f n ∷ [] else []) (picks_rise n p f (λ j k lt lk. less j k lt (omega arith))) (alone (p n)) (picks_below n p f (if p n then f n ∷ [] else []) (λ k lt. last (p n) k lt))
+picks_rise (suc n) p f less = ascending_append (picks n p f) (if p n then f n ∷ [] else []) (picks_rise n p f (λ j k lt lk. less j k lt (omega arith))) (alone (p n)) (picks_below n p f (if p n then f n ∷ [] else []) (λ k lt. last (p n) k lt))
   where
-    alone : (b : Bool) → IsRising (if b then f n ∷ [] else [])
+    alone : (b : Bool) → IsAscending (if b then f n ∷ [] else [])
     alone true = (tt, tt)
     alone false = tt
 
@@ -224,9 +224,9 @@ gather_below : (n : ℕ) (f : ℕ → List Pair) (ys : List Pair) → ((i : ℕ)
 gather_below zero f ys each = tt
 gather_below (suc n) f ys each = below_append (gather n f) (f n) ys (gather_below n f ys (λ i lt. each i (omega arith))) (each n (omega arith))
 
-gather_rise : (n : ℕ) (f : ℕ → List Pair) → ((i : ℕ) → i < n → IsRising (f i)) → ((i j : ℕ) → i < j → j < n → EachBelow (f i) (f j)) → IsRising (gather n f)
+gather_rise : (n : ℕ) (f : ℕ → List Pair) → ((i : ℕ) → i < n → IsAscending (f i)) → ((i j : ℕ) → i < j → j < n → EachBelow (f i) (f j)) → IsAscending (gather n f)
 gather_rise zero f each cross = tt
-gather_rise (suc n) f each cross = rising_append (gather n f) (f n) (gather_rise n f (λ i lt. each i (omega arith)) (λ i j lt lj. cross i j lt (omega arith))) (each n (omega arith)) (gather_below n f (f n) (λ i lt. cross i n lt (omega arith)))
+gather_rise (suc n) f each cross = ascending_append (gather n f) (f n) (gather_rise n f (λ i lt. each i (omega arith)) (λ i j lt lj. cross i j lt (omega arith))) (each n (omega arith)) (gather_below n f (f n) (λ i lt. cross i n lt (omega arith)))
 
 between : (names : List (List ℕ)) → rises names ≡ true → (i j : ℕ) → i < j → j < length names → order (name_at names i) (name_at names j) ≡ Less
 between names h i j lt lj = subst (λ k. order (name_at names i) (name_at names k) ≡ Less) (reach i j lt) (rise_apart names h i (j - suc i) (subst (λ k. k < length names) (sym (reach i j lt)) lj))
@@ -235,7 +235,7 @@ between names h i j lt lj = subst (λ k. order (name_at names i) (name_at names 
     reach a b lt = omega arith
 
 -- the pairs of a table rise
-pub pairs_rise : (asked : Asked) → is_problem asked ≡ true → (x : Cells) → IsRising (pairs_of asked x)
+pub pairs_rise : (asked : Asked) → is_problem asked ≡ true → (x : Cells) → IsAscending (pairs_of asked x)
 pairs_rise asked ok x = gather_rise (items (net_of asked)) (λ i. picks (members (net_of asked)) (x i) (pair i)) (λ i li. picks_rise (members (net_of asked)) (x i) (pair i) (λ j k lt lk. in_row i j k lt lk))
     (λ i j lt lj. picks_below (members (net_of asked)) (x i) (pair i) (picks (members (net_of asked)) (x j) (pair j)) (λ k lk. above_picks (pair i k) (members (net_of asked)) (x j) (pair j) (λ l ll. in_rows i j k l lt lj)))
   where
@@ -249,5 +249,5 @@ pairs_rise asked ok x = gather_rise (items (net_of asked)) (λ i. picks (members
     in_rows : (i j k l : ℕ) → i < j → j < items (net_of asked) → pair_order (pair i k) (pair j l) ≡ Less
     in_rows i j k l lt lj = ap (λ o. ordering_then o (order (name_at (member_names asked) k) (name_at (member_names asked) l))) (between (item_names asked) ((asked_facts asked ok).items_rise) i j lt (item_below asked j lj))
 
-pub table_rises : (asked : Asked) → is_problem asked ≡ true → (x : Cells) → rising (pairs_of asked x) ≡ true
-table_rises asked ok x = rising_test (pairs_of asked x) (pairs_rise asked ok x)
+pub table_rises : (asked : Asked) → is_problem asked ≡ true → (x : Cells) → ascending (pairs_of asked x) ≡ true
+table_rises asked ok x = ascending_test (pairs_of asked x) (pairs_rise asked ok x)

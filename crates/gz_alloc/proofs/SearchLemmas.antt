@@ -7,9 +7,6 @@ use Rattle.gz_alloc.specs.Flow.{Net, IsNet, Cells, items, members, limit, zone, 
 use Rattle.gz_alloc.specs.Search.{Marks, target, rank, mover, to, is_open, CanMove, IsMove, IsReady, IsTarget, IsSearch, Grows, IsTaken, EachTaken, IsPassed, open_at, aim_at, IsWhole, Opens, Advances, new_marks, IsPassedAt, IsStart}
 use Rattle.gz_alloc.proofs.SumLemmas.{sum_to_but, sum_to_zero, count_to_le, count_to_room}
 
-pub grows_refl : (s : Marks) → Grows s s
-grows_refl s = record { members = λ m h. refl; items = λ b h. refl; later = λ m h p. absurd (omega arith); more = omega arith }
-
 below_at : (a b : ℕ) → b ≡ a → a < 64 → b < 64
 below_at a b e h = omega arith
 
@@ -194,12 +191,6 @@ aim_keeps net x s ok is b t lb h aim = record {
       earlier = move.earlier;
     }
 
-pub aimed : (net : Net) (x : Cells) (s : Marks) → IsSearch net x s → (b t : ℕ) → b < items net → target (aim_at s b t) b ≡ t
-aimed net x s is b t lb = get_or-set_same s.targets b t 0 (in_list (length s.targets) is.each_target)
-  where
-    in_list : (l : ℕ) → l ≡ items net → b < l
-    in_list l e = omega arith
-
 pub opens : (net : Net) (x : Cells) (s : Marks) → IsNet net → IsSearch net x s → (m b t : ℕ) → m < members net → 64 ≤ rank s m →
     (load net x m < limit net m) ⊎ CanMove net x s m b t → Opens net x s (open_at s m b t)
 opens net x s ok is m b t lm h why = record {
@@ -211,36 +202,8 @@ opens net x s ok is m b t lm h why = record {
     in_list : (l : ℕ) → l ≡ members net → m < l
     in_list l e = omega arith
 
-pub opens_refl : (net : Net) (x : Cells) (s : Marks) → IsSearch net x s → Opens net x s s
-opens_refl net x s is = record { search = is; grows = grows_refl s; same = refl }
-
-pub opens_trans : (net : Net) (x : Cells) (r s t : Marks) → Opens net x r s → Opens net x s t → Opens net x r t
-opens_trans net x r s t g h = record { search = h.search; grows = grows_trans r s t g.grows h.grows; same = h.same ∙ g.same }
-
--- one more member was seen to
-pub taken_more : (net : Net) (x : Cells) (s new : Marks) → Grows s new → (b n : ℕ) (P : ℕ → Type 0) →
-    ((m : ℕ) → m < n → x b m ≡ true → P m → rank s m < 64) → (x b n ≡ true → P n → rank new n < 64) → (m : ℕ) → m < n + 1 → x b m ≡ true → P m → rank new m < 64
-taken_more net x s new g b n P before here m lm p q =
-    ⊎_elim (λ (e : m ≡ n). subst (λ y. rank new y < 64) (sym e) (here (subst (λ y. x b y ≡ true) e p) (subst P e q))) (λ (ne : m ≢ n). stays_open s new g m (before m (lower m n lm ne) p q)) (cases_eq m n)
-  where
-    lower : (m n : ℕ) → m < n + 1 → m ≢ n → m < n
-    lower m n p q = omega arith
-
--- after all members with the item got a way, each item with a target is taken again
-pub taken_after_aim : (net : Net) (x : Cells) (s new : Marks) (b t : ℕ) → 64 ≤ target s b → Opens net x (aim_at s b t) new → EachTaken net x s → IsTaken net x new b → EachTaken net x new
-taken_after_aim net x s new b t h o each all b' lb' p m lm placed =
-    ⊎_elim (λ (e : b' ≡ b). all m lm (subst (λ y. x y m ≡ true) e placed))
-    (λ (ne : b' ≢ b). stays_open s new (grows_trans s (aim_at s b t) new (aim_grows s b t h) o.grows) m (each b' lb' (below_at _ _ (sym (ap (λ l. get_or l b' 0) o.same ∙ get_or-set_other s.targets b b' t 0 ne)) p) m lm placed))
-    (cases_eq b' b)
-
-pub taken_after_row : (net : Net) (x : Cells) (s new : Marks) → Opens net x s new → EachTaken net x s → EachTaken net x new
-taken_after_row net x s new o each b lb p m lm placed = stays_open s new o.grows m (each b lb (below_at _ _ (sym (ap (λ l. get_or l b 0) o.same)) p) m lm placed)
-
 pub advances_trans : (net : Net) (x : Cells) (r s t : Marks) → Advances net x r s → Advances net x s t → Advances net x r t
 advances_trans net x r s t g h = record { search = h.search; grows = grows_trans r s t g.grows h.grows; taken = h.taken }
-
-pub advances_refl : (net : Net) (x : Cells) (s : Marks) → IsSearch net x s → EachTaken net x s → Advances net x s s
-advances_refl net x s is taken = record { search = is; grows = grows_refl s; taken = taken }
 
 -- those that were found after members of a rank have greater ranks
 pub later_more : (r s new : Marks) → Grows s new → (head : ℕ) → head < s.found → ((m : ℕ) → 64 ≤ rank r m → rank s m < 64 → head < rank s m) →

@@ -215,13 +215,6 @@ move_total net x y w b m t d1 d2 = join (total net w) (total net y) (total net x
     join : (a c e : ℕ) → c + 1 ≡ e + 0 → a + 0 ≡ c + 1 → a ≡ e
     join a c e p q = omega arith
 
-pub walk_ends : (net : Net) (x : Cells) (s : Marks) (m : ℕ) → IsWalk net x s m → load net x m ≤ limit net m → Keeps net x
-walk_ends net x s m walk h = record {
-  rows = walk.rows;
-  loads = λ n ln. ⊎_elim (λ (e : n ≡ m). subst (λ j. load net x j ≤ limit net j) (sym e) h) (λ (ne : n ≢ m). walk.loads n ln ne) (cases_eq n m);
-  zones = walk.zones;
-}
-
 -- the member that has too many can move one
 pub walk_moves : (net : Net) (x : Cells) (s : Marks) (m : ℕ) → IsWalk net x s m → limit net m < load net x m → IsMove net x s m
 walk_moves net x s m walk h = ⊎_elim (λ (e : load net x m ≤ limit net m). absurd (no (load net x m) (limit net m) e h)) (λ (move : IsMove net x s m). move) walk.way

@@ -1,5 +1,5 @@
 pub mod Sums
-pub mod Rising
+pub mod Ascending
 pub mod Tally
 pub mod Flow
 pub mod Search

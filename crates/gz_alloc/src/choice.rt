@@ -1,7 +1,7 @@
 //! The placement of a problem.
 ghost use Rattle.std.specs.Prelude.{◌≡◌, ℕ, ◌+◌, ◌<◌, ◌≤◌, ◌&&◌, ◌++◌, length, true, false, ◌*◌, replicate, IfOk, OnOk};
 ghost use Rattle.gz_alloc.specs.Flow.{IsNet, IsTable, Cells, items, members, zone, cells_of, Keeps, total, free, is_zone};
-ghost use Rattle.gz_alloc.specs.Rising.{rising};
+ghost use Rattle.gz_alloc.specs.Ascending.{ascending};
 ghost use Rattle.gz_alloc.specs.Search.{IsSearch, is_chosen, is_zone_chosen};
 ghost use Rattle.gz_alloc.specs.Names.{Asked, net_of, is_problem, item_names, member_names, zone_names, name_at, IsFeasible, IsFeasibleOf, IsChoice, size, greedy, greedy_pairs, picks, gather, pairs_of, mark_pairs, cut_members, cut_zones, cut_capacity};
 
@@ -27,7 +27,9 @@ fn push_row(
     requires numbers { network.now ≡ net_of problem.now }
     requires table { IsTable network.now flags.now }
     requires item { i < items network.now }
-    ensures { OnOk result (pairs.new.items ≡ pairs.old.items ++ picks (members network.now) (cells_of flags.now i) (λ m. (name_at (item_names problem.now) i, name_at (member_names problem.now) m))) }
+    ensures { OnOk result
+        (pairs.new.items ≡ pairs.old.items ++ picks (members network.now) (cells_of flags.now i)
+        (λ m. (name_at (item_names problem.now) i, name_at (member_names problem.now) m))) }
 {
     for m in 0..network.members() {
         if cell(flags, i, m) {
@@ -57,7 +59,7 @@ fn placement_of(
     for i in 0..network.items() {
         push_row(problem, network, flags, i, &mut pairs)?;
     }
-    Ok(Placement::of_rising(pairs))
+    Ok(Placement::of_ascending(pairs))
 }
 
 /// The members that the search chooses.
@@ -131,7 +133,10 @@ fn push_zones(
     requires ranks { length search.now.ranks ≡ members network.now }
     requires targets { length search.now.targets ≡ items network.now }
     requires item { i < items network.now }
-    ensures { OnOk result (zones.new.items ≡ zones.old.items ++ picks (members network.now) (λ z. is_zone network.now z && is_zone_chosen network.now search.now i z) (λ z. (name_at (item_names problem.now) i, name_at (zone_names problem.now) z))) }
+    ensures { OnOk result
+        (zones.new.items ≡ zones.old.items ++ picks (members network.now)
+        (λ z. is_zone network.now z && is_zone_chosen network.now search.now i z)
+        (λ z. (name_at (item_names problem.now) i, name_at (zone_names problem.now) z))) }
 {
     for z in 0..network.members() {
         let cut = is_cut(network, search, i, z);
@@ -176,8 +181,10 @@ fn is_of_size(
     requires net { IsNet network.now }
     requires problem { is_problem problem.now ≡ true }
     requires numbers { network.now ≡ net_of problem.now }
-    ensures yes { IfOk result (λ answer. answer ≡ true → IsFeasibleOf problem.now placement.now size) }
-    ensures no { IfOk result (λ answer. answer ≡ false → IsFeasibleOf problem.now placement.now size → ⊥) }
+    ensures yes { IfOk result
+        (λ answer. answer ≡ true → IsFeasibleOf problem.now placement.now size) }
+    ensures no { IfOk result
+        (λ answer. answer ≡ false → IsFeasibleOf problem.now placement.now size → ⊥) }
 {
     let flags = table_of(alloc, problem, network, placement.pairs())?;
     let answer = is_table_of_size(problem, network, placement.pairs(), flags.as_slice(), size);
@@ -201,9 +208,12 @@ fn choose(
     requires first_table { IsTable network.now first.now }
     requires table { IsTable network.now flags.now }
     requires keeps { Keeps network.now (cells_of flags.now) }
-    ensures feasible { IfOk result (λ placement. IsFeasibleOf problem.now placement (total network.now (cells_of flags.now))) }
-    ensures choice { IfOk result (λ placement. IsChoice problem.now now.now goal.now placement (total network.now (cells_of flags.now))) }
-    ensures ordered { IfOk result (λ placement. rising placement ≡ true) }
+    ensures feasible { IfOk result
+        (λ placement. IsFeasibleOf problem.now placement (total network.now (cells_of flags.now))) }
+    ensures choice { IfOk result
+        (λ placement.
+        IsChoice problem.now now.now goal.now placement (total network.now (cells_of flags.now))) }
+    ensures ordered { IfOk result (λ placement. ascending placement ≡ true) }
 {
     let greatest = total(network, flags);
     let stays = is_of_size(alloc, problem, network, now, greatest)?;
@@ -270,9 +280,12 @@ fn finish(
     requires table { IsTable network.now flags.old }
     requires keeps { Keeps network.now (cells_of flags.old) }
     ensures feasible { IfOk result (λ answer. IsFeasible problem.now answer.0) }
-    ensures cut { IfOk result (λ answer. cut_capacity problem.now answer.1.members.items answer.1.zones.items ≡ size problem.now answer.0) }
+    ensures cut { IfOk result
+        (λ answer. cut_capacity problem.now answer.1.members.items answer.1.zones.items
+        ≡ size problem.now answer.0) }
     ensures length { IfOk result (λ answer. size problem.now answer.0 ≡ length answer.0) }
-    ensures choice { IfOk result (λ answer. IsChoice problem.now now.now goal.now answer.0 (size problem.now answer.0)) }
+    ensures choice { IfOk result
+        (λ answer. IsChoice problem.now now.now goal.now answer.0 (size problem.now answer.0)) }
 {
     let search = solve(alloc, network, flags)?;
     let members = cut_members(alloc, problem, network, &search)?;
@@ -293,9 +306,12 @@ pub fn place(
     goal: &Placement,
 ) -> Result<(Placement, Cut), NoMemory>
     ensures feasible { IfOk result (λ answer. IsFeasible problem.now answer.0) }
-    ensures cut { IfOk result (λ answer. cut_capacity problem.now answer.1.members.items answer.1.zones.items ≡ size problem.now answer.0) }
+    ensures cut { IfOk result
+        (λ answer. cut_capacity problem.now answer.1.members.items answer.1.zones.items
+        ≡ size problem.now answer.0) }
     ensures length { IfOk result (λ answer. size problem.now answer.0 ≡ length answer.0) }
-    ensures choice { IfOk result (λ answer. IsChoice problem.now now.now goal.now answer.0 (size problem.now answer.0)) }
+    ensures choice { IfOk result
+        (λ answer. IsChoice problem.now now.now goal.now answer.0 (size problem.now answer.0)) }
 {
     let network = network_of(alloc, problem)?;
     let first = begin(alloc, problem, &network, now)?;

@@ -15,7 +15,9 @@ fn zones_keep(network: &Network, flags: &[bool], i: usize) -> bool
     requires net { IsNet network.now }
     requires table { IsTable network.now flags.now }
     requires item { i < items network.now }
-    ensures yes { result ≡ true → (m : ℕ) → m < members network.now → in_zone network.now (cells_of flags.now) i (zone network.now m) ≤ zone_bound (replicas network.now i) }
+    ensures yes { result ≡ true → (m : ℕ) → m < members network.now →
+        in_zone network.now (cells_of flags.now) i (zone network.now m) ≤ zone_bound
+        (replicas network.now i) }
     ensures no { result ≡ false → Keeps network.now (cells_of flags.now) → ⊥ }
 {
     let bound = bound_of(network.replicas(i));
@@ -31,8 +33,11 @@ fn zones_keep(network: &Network, flags: &[bool], i: usize) -> bool
 fn items_keep(network: &Network, flags: &[bool]) -> bool
     requires net { IsNet network.now }
     requires table { IsTable network.now flags.now }
-    ensures rows { result ≡ true → (i : ℕ) → i < items network.now → row network.now (cells_of flags.now) i ≤ replicas network.now i }
-    ensures zones { result ≡ true → (i m : ℕ) → i < items network.now → m < members network.now → in_zone network.now (cells_of flags.now) i (zone network.now m) ≤ zone_bound (replicas network.now i) }
+    ensures rows { result ≡ true → (i : ℕ) → i < items network.now →
+        row network.now (cells_of flags.now) i ≤ replicas network.now i }
+    ensures zones { result ≡ true → (i m : ℕ) → i < items network.now → m < members network.now →
+        in_zone network.now (cells_of flags.now) i (zone network.now m) ≤ zone_bound
+        (replicas network.now i) }
     ensures no { result ≡ false → Keeps network.now (cells_of flags.now) → ⊥ }
 {
     for i in 0..network.items() {
@@ -51,7 +56,8 @@ fn items_keep(network: &Network, flags: &[bool]) -> bool
 fn members_keep(network: &Network, flags: &[bool]) -> bool
     requires net { IsNet network.now }
     requires table { IsTable network.now flags.now }
-    ensures yes { result ≡ true → (m : ℕ) → m < members network.now → load network.now (cells_of flags.now) m ≤ limit network.now m }
+    ensures yes { result ≡ true → (m : ℕ) → m < members network.now →
+        load network.now (cells_of flags.now) m ≤ limit network.now m }
     ensures no { result ≡ false → Keeps network.now (cells_of flags.now) → ⊥ }
 {
     for m in 0..network.members() {
@@ -125,7 +131,8 @@ pub(crate) fn is_table_of_size(
     requires problem { is_problem problem.now ≡ true }
     requires numbers { network.now ≡ net_of problem.now }
     requires table { IsTable network.now flags.now }
-    requires cells { flags.now ≡ mark_pairs problem.now pairs.now (replicate (64 * items network.now) false) }
+    requires cells { flags.now
+        ≡ mark_pairs problem.now pairs.now (replicate (64 * items network.now) false) }
     ensures yes { result ≡ true → IsFeasibleOf problem.now pairs.now size }
     ensures no { result ≡ false → IsFeasibleOf problem.now pairs.now size → ⊥ }
 {

@@ -46,7 +46,8 @@ pub(crate) fn bound_of(replicas: usize) -> usize
 
 impl Network {
     pub(crate) fn new(replicas: Vec<usize>, limits: Vec<usize>, zones: Vec<usize>) -> Network
-        ensures { result ≡ record { replicas = replicas.items; limits = limits.items; zones = zones.items } }
+        ensures { result
+            ≡ record { replicas = replicas.items; limits = limits.items; zones = zones.items } }
     {
         Network {
             replicas,

@@ -16,8 +16,11 @@ fn greater(network: &Network, flags: &[bool], most: usize) -> usize
     requires net { IsNet network.now }
     requires table { IsTable network.now flags.now }
     ensures grows { most ≤ result }
-    ensures attained { (result ≡ most) ⊎ (Keeps network.now (cells_of flags.now) × (total network.now (cells_of flags.now) ≡ result)) }
-    ensures most { Keeps network.now (cells_of flags.now) → total network.now (cells_of flags.now) ≤ result }
+    ensures attained { (result ≡ most)
+        ⊎ (Keeps network.now (cells_of flags.now)
+        × (total network.now (cells_of flags.now) ≡ result)) }
+    ensures most { Keeps network.now (cells_of flags.now) →
+        total network.now (cells_of flags.now) ≤ result }
 {
     let kept = keeps(network, flags);
     if !kept {

@@ -3,7 +3,7 @@ ghost use Rattle.std.specs.Prelude.{◌≡◌, ℕ, ◌+◌, ◌*◌, ◌<◌, �
 ghost use Rattle.std.specs.Ordering.{is_lt, nat_cmp};
 ghost use Rattle.std.specs.Cmp.Lexicographic.{slice_cmp};
 ghost use Rattle.gz_alloc.specs.Sums.{all_to};
-ghost use Rattle.gz_alloc.specs.Rising.{below_next, rising};
+ghost use Rattle.gz_alloc.specs.Ascending.{below_next, ascending};
 ghost use Rattle.gz_alloc.specs.Flow.{items, members};
 ghost use Rattle.gz_alloc.specs.Names.{Asked, is_problem, item_names, member_names, zone_names, name_at, place_of, rises_at, rises, net_of};
 
@@ -71,7 +71,8 @@ fn zone_place(members: &[Member], zone: &Name) -> usize
 fn find_item(items: &[Item], name: &Name) -> Result<usize, usize>
     requires { rises (map (λ i. i.name) items.now) ≡ true }
     ensures found { IfOk result (λ i. i ≡ place_of name.now (map (λ i. i.name) items.now)) }
-    ensures absent { IfErr result (λ _. length items.now ≡ place_of name.now (map (λ i. i.name) items.now)) }
+    ensures absent { IfErr result
+        (λ _. length items.now ≡ place_of name.now (map (λ i. i.name) items.now)) }
 {
     let compare = |item: &Item| -> Ordering
         ensures { result ≡ slice_cmp nat_cmp item.now.name name.entry.now }
@@ -83,7 +84,8 @@ fn find_item(items: &[Item], name: &Name) -> Result<usize, usize>
 fn find_member(members: &[Member], name: &Name) -> Result<usize, usize>
     requires { rises (map (λ m. m.name) members.now) ≡ true }
     ensures found { IfOk result (λ m. m ≡ place_of name.now (map (λ m. m.name) members.now)) }
-    ensures absent { IfErr result (λ _. length members.now ≡ place_of name.now (map (λ m. m.name) members.now)) }
+    ensures absent { IfErr result
+        (λ _. length members.now ≡ place_of name.now (map (λ m. m.name) members.now)) }
 {
     let compare = |member: &Member| -> Ordering
         ensures { result ≡ slice_cmp nat_cmp member.now.name name.entry.now }
@@ -162,7 +164,9 @@ fn limit_at(members: &[Member], m: usize) -> u16
 /// Whether each item has 1 to 5 replicas.
 #[tactic(auto, using(crate::proofs::NameLemmas::all_to_fails))]
 fn replicas_fit(items: &[Item]) -> bool
-    ensures { result ≡ all_to (length items.now) (λ i. nat_lt 0 (slice_index (map (λ i. i.replicas) items.now) i) && nat_le (slice_index (map (λ i. i.replicas) items.now) i) 5) }
+    ensures { result ≡ all_to (length items.now)
+        (λ i. nat_lt 0 (slice_index (map (λ i. i.replicas) items.now) i)
+        && nat_le (slice_index (map (λ i. i.replicas) items.now) i) 5) }
 {
     for i in 0..items.len() {
         let replicas = replicas_at(items, i);
@@ -176,7 +180,8 @@ fn replicas_fit(items: &[Item]) -> bool
 /// Whether each member's limit is at most 1,024.
 #[tactic(auto, using(crate::proofs::NameLemmas::all_to_fails))]
 fn limits_fit(members: &[Member]) -> bool
-    ensures { result ≡ all_to (length members.now) (λ m. nat_le (slice_index (map (λ m. m.limit) members.now) m) 1024) }
+    ensures { result ≡ all_to (length members.now)
+        (λ m. nat_le (slice_index (map (λ m. m.limit) members.now) m) 1024) }
 {
     for m in 0..members.len() {
         let limit = limit_at(members, m);
@@ -209,7 +214,9 @@ fn limits_of(alloc: Global, members: &[Member]) -> Result<Vec<usize>, AllocError
 
 /// The members' zones, each as the place of its first member.
 fn zones_of(alloc: Global, members: &[Member]) -> Result<Vec<usize>, AllocError>
-    ensures { IfOk result (λ numbers. numbers.items ≡ map (λ m. place_of m.zone (map (λ m. m.zone) members.now)) members.now) }
+    ensures { IfOk result
+        (λ numbers. numbers.items ≡ map
+        (λ m. place_of m.zone (map (λ m. m.zone) members.now)) members.now) }
 {
     members
         .iter()
@@ -235,7 +242,9 @@ impl Problem {
     /// order of names with no name twice, 1 to 5 replicas, and limits of at most 1,024. Else None. It takes no
     /// memory.
     pub fn of(items: Vec<Item>, members: Vec<Member>) -> Option<Problem>
-        ensures { result ≡ (if is_problem (record { items = items.items; members = members.items }) then Some (record { items = items.items; members = members.items }) else None) }
+        ensures { result
+            ≡ (if is_problem (record { items = items.items; members = members.items }) then Some
+            (record { items = items.items; members = members.items }) else None) }
     {
         let fits = is_fit(&items, &members);
         if fits {
@@ -353,13 +362,13 @@ pub struct Placement {
 
 impl Model for Placement {
     ghost use Rattle.std.specs.Prelude.{◌≡◌, List, ℕ, true};
-    ghost use Rattle.gz_alloc.specs.Rising.{rising};
+    ghost use Rattle.gz_alloc.specs.Ascending.{ascending};
 
     ghost Value = { List (List ℕ × List ℕ) };
 
     ghost view = { λ a. a.pairs.items };
 
-    ghost invariant = { λ a. rising a.pairs.items ≡ true };
+    ghost invariant = { λ a. ascending a.pairs.items ≡ true };
 }
 
 /// The copy of a list of pairs.
@@ -390,7 +399,7 @@ fn pair_rises(pairs: &[(Name, Name)], k: usize) -> bool
 /// Whether each pair is below the next one.
 #[tactic(auto, using(crate::proofs::NameLemmas::all_to_fails))]
 fn pairs_rise(pairs: &[(Name, Name)]) -> bool
-    ensures { result ≡ rising pairs.now }
+    ensures { result ≡ ascending pairs.now }
 {
     for k in 0..pairs.len() {
         let rises = pair_rises(pairs, k);
@@ -404,7 +413,7 @@ fn pairs_rise(pairs: &[(Name, Name)]) -> bool
 impl Placement {
     /// The placement of these pairs, where they rise. Else None. It takes no memory.
     pub fn of(pairs: Vec<(Name, Name)>) -> Option<Placement>
-        ensures { result ≡ (if rising pairs.items then Some pairs.items else None) }
+        ensures { result ≡ (if ascending pairs.items then Some pairs.items else None) }
     {
         let rises = pairs_rise(&pairs);
         if rises {
@@ -424,8 +433,8 @@ impl Placement {
     }
 
     /// The placement of these pairs, which rise.
-    pub(crate) fn of_rising(pairs: Vec<(Name, Name)>) -> Placement
-        requires { rising pairs.items ≡ true }
+    pub(crate) fn of_ascending(pairs: Vec<(Name, Name)>) -> Placement
+        requires { ascending pairs.items ≡ true }
         ensures { result ≡ pairs.items }
     {
         Placement { pairs }
@@ -441,7 +450,7 @@ impl Placement {
     /// An equal value.
     pub fn copy(&self, alloc: Global) -> Result<Placement, NoMemory>
         ensures value { IfOk result (λ copy. copy ≡ self.now) }
-        ensures ordered { IfOk result (λ copy. rising copy ≡ true) }
+        ensures ordered { IfOk result (λ copy. ascending copy ≡ true) }
     {
         let pairs = copy_pairs(alloc, self.pairs.as_slice())?;
         Ok(Placement { pairs })

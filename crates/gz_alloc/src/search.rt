@@ -33,7 +33,8 @@ impl Model for Search {
 impl Search {
     /// A search that knows nothing yet.
     fn new(alloc: Global, network: &Network) -> Result<Search, NoMemory>
-        ensures { IfOk result (λ search. search ≡ new_marks (items network.now) (members network.now)) }
+        ensures { IfOk result
+            (λ search. search ≡ new_marks (items network.now) (members network.now)) }
     {
         Ok(Search {
             targets: vec![in alloc; NONE; network.items()]?,
@@ -134,7 +135,8 @@ impl Search {
         requires aim { whole ≡ true → target self.old b ≡ t }
         requires within { m < members network.now }
         ensures opens { Opens network.now (cells_of flags.now) self.old self.new }
-        ensures taken { cells_of flags.now b m ≡ true → (whole ≡ true) ⊎ (zone network.now t ≡ zone network.now m) → rank self.new m < 64 }
+        ensures taken { cells_of flags.now b m ≡ true →
+            (whole ≡ true) ⊎ (zone network.now t ≡ zone network.now m) → rank self.new m < 64 }
     {
         if !cell(flags, b, m) || self.rank(m) < NONE {
             return;
@@ -156,7 +158,8 @@ impl Search {
         requires missing { cells_of flags.now b t ≡ false }
         requires aim { whole ≡ true → target self.old b ≡ t }
         ensures opens { Opens network.now (cells_of flags.now) self.old self.new }
-        ensures taken { (m : ℕ) → m < members network.now → cells_of flags.now b m ≡ true → (whole ≡ true) ⊎ (zone network.now t ≡ zone network.now m) → rank self.new m < 64 }
+        ensures taken { (m : ℕ) → m < members network.now → cells_of flags.now b m ≡ true →
+            (whole ≡ true) ⊎ (zone network.now t ≡ zone network.now m) → rank self.new m < 64 }
     {
         for m in 0..network.members() {
             self.open_one(network, flags, b, t, whole, m);
@@ -202,8 +205,11 @@ impl Search {
         requires target { t < members network.now }
         requires has_way { rank self.old t < 64 }
         ensures advances { Advances network.now (cells_of flags.now) self.old self.new }
-        ensures passed { IfNone result ((b : ℕ) → b < items network.now → IsPassed network.now (cells_of flags.now) self.new t b) }
-        ensures wanted { IfSome result (λ b. IsWanted network.now (cells_of flags.now) self.new b t) }
+        ensures passed { IfNone result
+            ((b : ℕ) → b < items network.now →
+            IsPassed network.now (cells_of flags.now) self.new t b) }
+        ensures wanted { IfSome result
+            (λ b. IsWanted network.now (cells_of flags.now) self.new b t) }
     {
         for b in 0..network.items() {
             let wanted = self.visit(network, flags, b, t);
@@ -228,9 +234,12 @@ impl Search {
         requires taken { EachTaken network.now (cells_of flags.now) self.old }
         requires head { head < 64 }
         ensures advances { Advances network.now (cells_of flags.now) self.old self.new }
-        ensures later { (m : ℕ) → 64 ≤ rank self.old m → rank self.new m < 64 → head < rank self.new m }
-        ensures passed { IfNone result (IsPassedAt network.now (cells_of flags.now) self.new head (members network.now)) }
-        ensures wanted { IfSome result (λ found. IsWanted network.now (cells_of flags.now) self.new found.0 found.1) }
+        ensures later { (m : ℕ) → 64 ≤ rank self.old m → rank self.new m < 64 →
+            head < rank self.new m }
+        ensures passed { IfNone result
+            (IsPassedAt network.now (cells_of flags.now) self.new head (members network.now)) }
+        ensures wanted { IfSome result
+            (λ found. IsWanted network.now (cells_of flags.now) self.new found.0 found.1) }
     {
         for t in 0..network.members() {
             if self.rank(t) == head {
@@ -253,7 +262,8 @@ impl Search {
         requires roomy { IsRoomy network.now (cells_of flags.now) self.old }
         ensures search { IsSearch network.now (cells_of flags.now) self.new }
         ensures whole { IfNone result (IsWhole network.now (cells_of flags.now) self.new) }
-        ensures wanted { IfSome result (λ found. IsWanted network.now (cells_of flags.now) self.new found.0 found.1) }
+        ensures wanted { IfSome result
+            (λ found. IsWanted network.now (cells_of flags.now) self.new found.0 found.1) }
     {
         for head in 0..network.members() {
             match self.visit_rank(network, flags, head) {
@@ -288,7 +298,8 @@ impl Search {
         requires search { IsSearch network.now (cells_of flags.now) self.old }
         requires within { m < members network.now }
         ensures opens { Opens network.now (cells_of flags.now) self.old self.new }
-        ensures roomy { load network.now (cells_of flags.now) m < limit network.now m → rank self.new m < 64 }
+        ensures roomy { load network.now (cells_of flags.now) m < limit network.now m →
+            rank self.new m < 64 }
     {
         if NONE <= self.rank(m) && network.load(flags, m) < network.limit(m) {
             self.open(m, 0, 0);

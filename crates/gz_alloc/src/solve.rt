@@ -17,7 +17,8 @@ fn add_pair(network: &Network, flags: &mut [bool], search: &Search, b: usize, t:
     requires search { IsSearch network.now (cells_of flags.old) search.now }
     requires wanted { IsWanted network.now (cells_of flags.old) search.now b t }
     ensures keeps { Keeps network.now (cells_of flags.new) }
-    ensures more { total network.now (cells_of flags.new) ≡ total network.now (cells_of flags.old) + 1 }
+    ensures more { total network.now (cells_of flags.new)
+        ≡ total network.now (cells_of flags.old) + 1 }
 {
     set(flags, b, t, true);
     let mut at = t;

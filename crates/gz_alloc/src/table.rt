@@ -34,7 +34,9 @@ pub(crate) fn table_of(
     requires net { IsNet network.now }
     requires numbers { network.now ≡ net_of problem.now }
     ensures table { IfOk result (λ flags. IsTable network.now flags.items) }
-    ensures cells { IfOk result (λ flags. flags.items ≡ mark_pairs problem.now pairs.now (replicate (64 * items network.now) false)) }
+    ensures cells { IfOk result
+        (λ flags. flags.items
+        ≡ mark_pairs problem.now pairs.now (replicate (64 * items network.now) false)) }
 {
     let mut flags = vec![in alloc; false; 64 * network.items()]?;
     for pair in pairs {

@@ -31,7 +31,8 @@ impl Tally {
     /// A table of no pairs.
     pub(crate) fn new(alloc: Global, network: &Network) -> Result<Tally, NoMemory>
         requires { IsNet network.now }
-        ensures { IfOk result (λ tally. tally ≡ no_tally (items network.now) (members network.now)) }
+        ensures { IfOk result
+            (λ tally. tally ≡ no_tally (items network.now) (members network.now)) }
     {
         Ok(Tally {
             flags: vec![in alloc; false; 64 * network.items()]?,

@@ -83,7 +83,7 @@ fn placement(alloc: Global, text: &[u8]) -> Result<Placement, Fail> {
     Ok(placement)
 }
 
-fn shown(alloc: Global, placement: &Placement) -> Result<Blob, Fail> {
+fn text_of(alloc: Global, placement: &Placement) -> Result<Blob, Fail> {
     let mut text = Blob::new(alloc);
     for pair in placement.pairs() {
         text.append(pair.0.as_slice())?;
@@ -105,7 +105,7 @@ fn answer<'a>(alloc: Global, row: &'a str) -> Result<(Blob, &'a [u8]), Fail> {
     let problem = Problem::of(items, members).ok_or("a problem")?;
     let (placement, _cut) = place(alloc, &problem, &now, &goal)?;
     let copied = placement.copy(alloc)?;
-    let text = shown(alloc, &copied)?;
+    let text = text_of(alloc, &copied)?;
     Ok((text, words.next().unwrap_or("").as_bytes()))
 }
 

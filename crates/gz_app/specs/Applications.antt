@@ -8,12 +8,12 @@ use Rattle.gz_app.specs.declared.state.Kept.TheVariants.{Number, Text}
 use Rattle.gz_app.specs.declared.app.AppKind.{AppKind}
 use Rattle.gz_app.specs.declared.app.AppKind.TheVariants.{Count, Relay, Latest}
 
--- what an application puts out
+-- what an application emits
 pub record Output : Type 0 where
   pub key : List ℕ
   pub value : List ℕ
 
--- what a message makes of a state: the state after it, and what it puts out
+-- what a message makes of a state: the state after it, and what it emits
 pub record Effect : Type 0 where
   pub state : State
   pub output : Option Output
@@ -22,18 +22,18 @@ pub record Effect : Type 0 where
 abbrev pub raised : ℕ → ℕ
 raised n = min (n + 1) (2 ^ 64 - 1)
 
--- `count` raises the key's number, and puts out the key with that number in decimal
+-- `count` raises the key's number, and emits the key with that number in decimal
 abbrev pub count_effect : State → Message → Effect
 count_effect state m = record {
   state = keep m.key (Number (raised (number_at m.key state))) state;
   output = Some (record { key = m.key; value = decimal (raised (number_at m.key state)) });
 }
 
--- `relay` keeps nothing, and puts out the key and the value
+-- `relay` keeps nothing, and emits the key and the value
 abbrev pub relay_effect : State → Message → Effect
 relay_effect state m = record { state = state; output = Some (record { key = m.key; value = m.value }) }
 
--- `latest` keeps the key's last value, and puts out nothing
+-- `latest` keeps the key's last value, and emits nothing
 abbrev pub latest_effect : State → Message → Effect
 latest_effect state m = record { state = keep m.key (Text m.value) state; output = None }
 

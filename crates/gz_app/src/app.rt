@@ -9,7 +9,7 @@ use gz_frame::Message;
 use gz_label::{Name, NoMemory};
 use std::alloc::Global;
 
-/// What takes messages. Its law: the state after a message and what is put out are a function of the state
+/// What takes messages. Its law: the state after a message and what is emitted are a function of the state
 /// before and the message.
 pub trait App {
     ghost use Rattle.gz_app.specs.States.{State as Keys};
@@ -18,28 +18,29 @@ pub trait App {
 
     ghost effect: { Self → Keys → Seen → Effect };
 
-    /// Takes the message: changes the state, and answers what is put out. After NoMemory the state is as it was.
+    /// Takes the message: changes the state, and answers what is emitted. After NoMemory the state is as it was.
     fn consume(
         &self,
         alloc: Global,
         state: &mut State,
         message: &Message,
     ) -> Result<Option<Output>, NoMemory>
-        ensures output { IfOk result (λ output. output ≡ (effect self.now state.old message.now).output) }
+        ensures output { IfOk result
+            (λ output. output ≡ (effect self.now state.old message.now).output) }
         ensures state { OnOk result (state.new ≡ (effect self.now state.old message.now).state) }
         ensures err { OnErr result (state.new ≡ state.old) };
 }
 
 /// Raises the number of each message's key, which is 0 where the key is absent or has a text and stays at
-/// 2^64 - 1, and puts out the key with the number in decimal.
+/// 2^64 - 1, and emits the key with the number in decimal.
 #[derive(Clone, Copy, Debug, PartialEq, Eq)]
 pub struct Count;
 
-/// Keeps no state, and puts out each message's key and value.
+/// Keeps no state, and emits each message's key and value.
 #[derive(Clone, Copy, Debug, PartialEq, Eq)]
 pub struct Relay;
 
-/// Keeps the last value of each key, and puts out nothing.
+/// Keeps the last value of each key, and emits nothing.
 #[derive(Clone, Copy, Debug, PartialEq, Eq)]
 pub struct Latest;
 

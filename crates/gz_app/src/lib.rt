@@ -1,4 +1,11 @@
 //! Applications: what they make of messages, and the state that they keep.
+//!
+//! ```text
+//! let Some(app) = app_of(&name) else { .. };                  // `count`, `relay` or `latest`
+//! let mut state = State::new(alloc);
+//! let output = app.consume(alloc, &mut state, &message)?;      // what it emits, if anything
+//! let text = print_state(alloc, &state)?;                      // compact JSON
+//! ```
 #![tactic(auto)]
 
 mod app;

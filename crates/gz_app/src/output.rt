@@ -1,4 +1,4 @@
-//! What an application puts out.
+//! What an application emits.
 ghost use Rattle.std.specs.Prelude.{◌≡◌, ◌++◌, ◌∷◌, ◌≤◌, ◌↔◌, [], length, IsTrue, OnOk};
 
 use gz_label::NoMemory;

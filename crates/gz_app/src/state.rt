@@ -121,7 +121,9 @@ fn put_kept(
     key: &str,
     kept: &Kept,
 ) -> Result<(), NoMemory>
-    ensures { OnOk result (members_view members.new.entries ≡ put key.now (kept_data kept.now) (members_view members.old.entries)) }
+    ensures { OnOk result
+        (members_view members.new.entries
+        ≡ put key.now (kept_data kept.now) (members_view members.old.entries)) }
 {
     let value = value_of(alloc, kept)?;
     members.insert(String::from_str(alloc, key)?, value)?;

@@ -23,7 +23,7 @@ fn named(alloc: Global, name: &str) -> Result<AppKind, Fail> {
     Ok(app_of(&name).ok_or("no application")?)
 }
 
-// What an application puts out for a message, as `key=value,`, is put behind the text.
+// What an application emits for a message, as `key=value,`, is put behind the text.
 fn take<A: App>(
     alloc: Global,
     app: &A,

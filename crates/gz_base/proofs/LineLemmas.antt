@@ -1,4 +1,4 @@
--- Lines, from their front.
+-- Lines, from their start.
 use Rattle.std.proofs.Common.{◌≡◌, ℕ, suc, ◌≤◌, ◌==◌, List, [], ◌∷◌, ◌++◌, length, take, drop, refl, cond, Bool, true, false, Option, Some, None, option_map, arith}
 use Rattle.gz_model.specs.Lines.{lines_of, onto, line_len}
 
@@ -15,7 +15,7 @@ whole_step : (b : Bool) (x : ℕ) (xs ys : List ℕ) (n : ℕ) → cond b (Some 
 whole_step true x xs ys n e ih = let k : 1 ≡ n = cc in rw (← k) refl
 whole_step false x xs ys n e ih = whole_rest (line_len xs) x xs ys n e ih
 
--- a whole line at the front is the first one, whatever follows
+-- a whole line at the start is the first one, whatever follows
 pub lines_of-whole : (xs ys : List ℕ) (n : ℕ) → line_len xs ≡ Some n → Splits xs ys n
 lines_of-whole [] ys n e = cc
 lines_of-whole (x ∷ xs) ys n e = whole_step (x == 10) x xs ys n e (λ m. lines_of-whole xs ys m)

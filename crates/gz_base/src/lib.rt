@@ -1,4 +1,12 @@
 //! The outside: where bytes come from and go to, what fails there, and how a run ends.
+//!
+//! ```text
+//! let mut source = StdSource::new(stdin.lock());
+//! let mut lines = LineReader::new(alloc)?;
+//! while let Some(line) = lines.next_line(alloc, &mut source, limit)? { .. }
+//! write_all(&mut StdSink::new(stdout.lock()), text)?;          // Failed after a prefix of them
+//! std::process::exit(Exit::Done.status());
+//! ```
 #![tactic(auto)]
 
 mod exit;

@@ -8,6 +8,8 @@ ghost use Rattle.gz_model.specs.Told.{ahead, TakesLine, HasLongLine, ReadsMore};
 use crate::{Failed, Source};
 use gz_label::{Blob, NoMemory};
 use std::alloc::Global;
+use std::error::Error;
+use std::fmt;
 use std::marker::Model;
 
 /// How many bytes are read at once.
@@ -26,6 +28,18 @@ pub enum LineError {
     /// Memory ran out.
     NoMemory,
 }
+
+impl fmt::Display for LineError {
+    fn fmt<W: fmt::Write>(&self, f: &mut fmt::Formatter<W>) -> fmt::Result {
+        match self {
+            LineError::Fault => write!(f, "the source failed"),
+            LineError::TooLong => write!(f, "the line is too long"),
+            LineError::NoMemory => write!(f, "out of memory"),
+        }
+    }
+}
+
+impl Error for LineError {}
 
 impl From<NoMemory> for LineError {
     ghost use Rattle.std.specs.Prelude.{◌≡◌};
@@ -91,7 +105,7 @@ impl Unread {
     }
 
     /// Puts the bytes at the end, and lets go of those that were taken. So the bytes of one line are
-    /// moved to the front at most once.
+    /// moved to the start at most once.
     fn append(&mut self, alloc: Global, bytes: &[u8]) -> Result<(), NoMemory>
         ensures { OnOk result (self.new ≡ self.old ++ bytes.now) }
     {
@@ -106,15 +120,16 @@ impl Unread {
         Ok(())
     }
 
-    fn take_front(&mut self, alloc: Global, n: usize) -> Result<Blob, NoMemory>
+    fn take_prefix(&mut self, alloc: Global, n: usize) -> Result<Blob, NoMemory>
         requires { n ≤ length self.old }
-        ensures { IfOk result (λ front. (front ≡ take n self.old) × (self.new ≡ drop n self.old)) }
+        ensures { IfOk result
+            (λ prefix. (prefix ≡ take n self.old) × (self.new ≡ drop n self.old)) }
     {
         let bytes = self.bytes.as_slice();
         let end = self.start + n;
-        let front = Blob::of(alloc, &bytes[self.start..end])?;
+        let prefix = Blob::of(alloc, &bytes[self.start..end])?;
         self.start = end;
-        Ok(front)
+        Ok(prefix)
     }
 }
 
@@ -159,10 +174,12 @@ impl LineReader {
     /// Puts a block of the source at the end, and answers how many bytes it has: 0 only at the end of
     /// the input.
     fn read_block<S: Source>(&mut self, alloc: Global, input: &mut S) -> Result<usize, LineError>
-        ensures more { IfOk result (λ n. ReadsMore n self.old self.new (S.left input.old) (S.left input.new)) }
+        ensures more { IfOk result
+            (λ n. ReadsMore n self.old self.new (S.left input.old) (S.left input.new)) }
         ensures end { IfOk result (λ n. n ≡ 0 → IsAtEnd (S.left input.new)) }
         ensures faults_stay { S.faults input.old ≤ S.faults input.new }
-        ensures fault { result ≡ Err LineError.Fault → HasRisen (S.faults input.old) (S.faults input.new) }
+        ensures fault { result ≡ Err LineError.Fault →
+            HasRisen (S.faults input.old) (S.faults input.new) }
         ensures never_long { result ≢ Err LineError.TooLong }
     {
         let n = input.read(self.block.as_mut_slice())?;
@@ -170,11 +187,12 @@ impl LineReader {
         Ok(n)
     }
 
-    fn take_front(&mut self, alloc: Global, n: usize) -> Result<Blob, NoMemory>
+    fn take_prefix(&mut self, alloc: Global, n: usize) -> Result<Blob, NoMemory>
         requires { n ≤ length self.old }
-        ensures { IfOk result (λ front. (front ≡ take n self.old) × (self.new ≡ drop n self.old)) }
+        ensures { IfOk result
+            (λ prefix. (prefix ≡ take n self.old) × (self.new ≡ drop n self.old)) }
     {
-        self.unread.take_front(alloc, n)
+        self.unread.take_prefix(alloc, n)
     }
 
     /// The next line, with its newline; the last one may lack it. None comes at the end of the input.
@@ -186,18 +204,24 @@ impl LineReader {
         input: &mut S,
         limit: usize,
     ) -> Result<Option<Blob>, LineError>
-        ensures end { IfOk result (λ r. OnNone r (IsAtEnd (ahead self.old (S.left input.old)) × IsAtEnd (S.left input.new))) }
-        ensures line { IfOk result (λ r. IfSome r (TakesLine (ahead self.old (S.left input.old)) (ahead self.new (S.left input.new)))) }
-        ensures too_long { result ≡ Err LineError.TooLong → HasLongLine limit (ahead self.old (S.left input.old)) }
+        ensures end { IfOk result
+            (λ r. OnNone r
+            (IsAtEnd (ahead self.old (S.left input.old)) × IsAtEnd (S.left input.new))) }
+        ensures line { IfOk result
+            (λ r. IfSome r
+            (TakesLine (ahead self.old (S.left input.old)) (ahead self.new (S.left input.new)))) }
+        ensures too_long { result ≡ Err LineError.TooLong →
+            HasLongLine limit (ahead self.old (S.left input.old)) }
         ensures faults_stay { S.faults input.old ≤ S.faults input.new }
-        ensures fault { result ≡ Err LineError.Fault → HasRisen (S.faults input.old) (S.faults input.new) }
+        ensures fault { result ≡ Err LineError.Fault →
+            HasRisen (S.faults input.old) (S.faults input.new) }
     {
         let mut searched = 0;
         'reads: loop {
             let bytes = self.unread();
             let have = bytes.len();
             match first_line_len(bytes, searched) {
-                Some(n) => return Ok(Some(self.take_front(alloc, n)?)),
+                Some(n) => return Ok(Some(self.take_prefix(alloc, n)?)),
                 None => searched = have,
             }
             if have > limit {
@@ -208,7 +232,7 @@ impl LineReader {
                 if have == 0 {
                     return Ok(None);
                 }
-                return Ok(Some(self.take_front(alloc, have)?));
+                return Ok(Some(self.take_prefix(alloc, have)?));
             }
         }
     }

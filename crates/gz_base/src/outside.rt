@@ -2,7 +2,7 @@
 ghost use Rattle.std.specs.Prelude.{◌≡◌, ◌<◌, ◌≤◌, ℕ, List, Option, length, take, IfOk, OnOk, OnErr};
 ghost use Rattle.std.specs.Io.KnownBytes.{Appends, Consumes, IsAtEnd, Keeps};
 ghost use Rattle.gz_model.specs.Faults.{HasRisen};
-ghost use Rattle.gz_model.specs.Told.{AppendsFront};
+ghost use Rattle.gz_model.specs.Told.{AppendsPrefix};
 
 use std::error::Error;
 use std::fmt;
@@ -31,11 +31,12 @@ pub trait Source {
     /// How many of its calls failed. The count never falls, and stands still at its type's end.
     ghost faults: { Self → ℕ };
 
-    /// Moves the first of the bytes that are left into the front of `out`, and answers how many. The
+    /// Moves the first of the bytes that are left into the start of `out`, and answers how many. The
     /// answer is 0 only at the end of the input, for an `out` that isn't empty.
     fn read(&mut self, out: &mut [u8]) -> Result<usize, Failed>
         ensures within { IfOk result (λ n. n ≤ length out.old) }
-        ensures taken { IfOk result (λ n. Consumes (left self.old) (left self.new) (take n out.new)) }
+        ensures taken { IfOk result
+            (λ n. Consumes (left self.old) (left self.new) (take n out.new)) }
         ensures end { IfOk result (λ n. n ≡ 0 → 0 < length out.old → IsAtEnd (left self.new)) }
         ensures kept { OnErr result (Keeps (left self.old) (left self.new)) }
         ensures faults_stay { faults self.old ≤ faults self.new }
@@ -55,16 +56,17 @@ pub trait Sink {
     fn write(&mut self, bytes: &[u8]) -> Result<usize, Failed>
         ensures within { IfOk result (λ n. n ≤ length bytes.now) }
         ensures progress { IfOk result (λ n. 0 < length bytes.now → 0 < n) }
-        ensures put { IfOk result (λ n. Appends (held self.old) (held self.new) (take n bytes.now)) }
+        ensures put { IfOk result
+            (λ n. Appends (held self.old) (held self.new) (take n bytes.now)) }
         ensures kept { OnErr result (Keeps (held self.old) (held self.new)) }
         ensures faults_stay { faults self.old ≤ faults self.new }
         ensures fault { OnErr result (HasRisen (faults self.old) (faults self.new)) };
 }
 
-/// Writes all the bytes. Where it fails, a front of them was written. It takes no memory.
+/// Writes all the bytes. Where it fails, a prefix of them was written. It takes no memory.
 pub fn write_all<K: Sink>(out: &mut K, bytes: &[u8]) -> Result<(), Failed>
     ensures all { OnOk result (Appends (K.held out.old) (K.held out.new) bytes.now) }
-    ensures front { OnErr result (AppendsFront (K.held out.old) (K.held out.new) bytes.now) }
+    ensures prefix { OnErr result (AppendsPrefix (K.held out.old) (K.held out.new) bytes.now) }
     ensures faults_stay { K.faults out.old ≤ K.faults out.new }
     ensures fault { OnErr result (HasRisen (K.faults out.old) (K.faults out.new)) }
 {

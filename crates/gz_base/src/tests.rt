@@ -33,7 +33,7 @@ impl io::Read for Pieces {
 }
 
 // The lines, each with a bar behind it, and then how they end: a dot, F after a fault, L after a long line.
-fn told(alloc: Global, reader: Pieces, limit: usize) -> Result<Blob, Fail> {
+fn next_line(alloc: Global, reader: Pieces, limit: usize) -> Result<Blob, Fail> {
     let mut input = StdSource::new(reader);
     let mut lines = LineReader::new(alloc)?;
     let mut out = Blob::new(alloc);
@@ -82,7 +82,7 @@ fn lines(rt: HostRuntime) -> Result<(), Fail> {
                 step,
                 cut,
             };
-            let got = told(alloc, reader, limit)?;
+            let got = next_line(alloc, reader, limit)?;
             assert_eq!(rt;
                 got.as_slice(),
                 want.as_bytes(),

@@ -30,7 +30,7 @@ fn append_journals(alloc: Global, out: &mut Blob, shards: u32) -> Result<(), NoM
     Ok(())
 }
 
-/// The sources of the shard of this number among so many: what the shard before it puts out, and journals of clients.
+/// The sources of the shard of this number among so many: what the shard before it emits, and journals of clients.
 fn append_sources(alloc: Global, out: &mut Blob, number: u32, shards: u32) -> Result<(), NoMemory> {
     let before = number.saturating_sub(1);
     let first = if number == 0 {
@@ -59,7 +59,7 @@ fn append_shard(alloc: Global, out: &mut Blob, number: u32, shards: u32) -> Resu
 /// The text without the comma at its end, if there is one.
 fn without_comma(alloc: Global, text: &Blob) -> Result<Blob, NoMemory> {
     match text.as_slice() {
-        [front @ .., b','] => Blob::of(alloc, front),
+        [prefix @ .., b','] => Blob::of(alloc, prefix),
         whole => Blob::of(alloc, whole),
     }
 }
@@ -80,7 +80,7 @@ fn text(alloc: Global, shards: u32) -> Result<Blob, NoMemory> {
     Ok(out)
 }
 
-/// Reads specifications of so many shards, a row in which each reads what the one before puts out, prints them, and
+/// Reads specifications of so many shards, a row in which each reads what the one before emits, prints them, and
 /// reads them again. Answers how many bytes were printed, and 0 where they weren't read.
 pub fn read_and_print(alloc: Global, shards: u32) -> Result<u64, NoMemory> {
     let text = text(alloc, shards)?;

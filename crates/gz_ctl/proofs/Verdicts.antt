@@ -3,7 +3,7 @@ use Rattle.std.proofs.Common.{◌≡◌, ◌≢◌, ◌⊎◌, inl, inr, Bool, t
 use Rattle.std.specs.Io.KnownBytes.{Appends, IsAtEnd}
 use Rattle.gz_model.specs.Faults.{HasRisen}
 use Rattle.gz_model.specs.Lines.{lines_of}
-use Rattle.gz_model.specs.Told.{AppendsFront}
+use Rattle.gz_model.specs.Told.{AppendsPrefix}
 use Rattle.gz_base.specs.declared.exit.Exit.{Exit}
 use Rattle.gz_base.specs.declared.exit.Exit.TheVariants.{Done, Usage, BadInput, ReadFault, WriteFault, FileFault, PeerFault, Refused, Lost, NoMemory, Mismatch, HistoryFull, SpawnFault, BadPeer}
 use Rattle.gz_scenario.specs.declared.error.ScenarioError.{ScenarioError}
@@ -16,7 +16,7 @@ use Rattle.gz_plain.specs.Promise.{AllExactlyOnce}
 use Rattle.gz_plain.specs.Order.{AllRest}
 use Rattle.gz_plain.specs.Reports.{AllTellCaught, AllUpToDate}
 use Rattle.gz_ctl.specs.Commands.{usage_text, read_fault_text}
-use Rattle.gz_ctl.specs.Answers.{IsVerdict, IsReport, IsRefusal, IsReplayText, WritesReport, WritesRefusal, WritesFront, IsAnswer, HasReport, KeepsIf, KeepsAlong}
+use Rattle.gz_ctl.specs.Answers.{IsVerdict, IsReport, IsRefusal, IsReplayText, WritesReport, WritesRefusal, WritesPrefix, IsAnswer, HasReport, KeepsIf, KeepsAlong}
 
 -- ---- what is written
 
@@ -56,9 +56,9 @@ fault_text : (input : Option (List ℕ)) (risen : Type 0) (text : List ℕ) → 
 fault_text None risen text rose is = tt
 fault_text (Some input) risen text rose is = inr (inr (rose, is))
 
-pub usage_front : (command : Bool) (input old new : Option (List ℕ)) (risen : Type 0) → command ≡ false → AppendsFront old new usage_text → WritesFront command input risen old new
-usage_front true input old new risen no_command front = cc
-usage_front false input old new risen no_command front = (usage_text, refl, front)
+pub usage_prefix : (command : Bool) (input old new : Option (List ℕ)) (risen : Type 0) → command ≡ false → AppendsPrefix old new usage_text → WritesPrefix command input risen old new
+usage_prefix true input old new risen no_command prefix = cc
+usage_prefix false input old new risen no_command prefix = (usage_text, refl, prefix)
 
 -- ---- a verdict
 
@@ -81,13 +81,13 @@ text_of HistoryFull text left rest faults risen v = absurd v
 text_of SpawnFault text left rest faults risen v = absurd v
 text_of BadPeer text left rest faults risen v = absurd v
 
-front_of : (command : Bool) (text : List ℕ) (left old new : Option (List ℕ)) (risen : Type 0) → command ≡ true → IsReplayText left risen text → AppendsFront old new text → WritesFront command left risen old new
-front_of true text left old new risen is_one is front = (text, is, front)
-front_of false text left old new risen is_one is front = cc
+prefix_of : (command : Bool) (text : List ℕ) (left old new : Option (List ℕ)) (risen : Type 0) → command ≡ true → IsReplayText left risen text → AppendsPrefix old new text → WritesPrefix command left risen old new
+prefix_of true text left old new risen is_one is prefix = (text, is, prefix)
+prefix_of false text left old new risen is_one is prefix = cc
 
 -- the text of the verdict was written in part
-pub verdict_front : (command : Bool) (exit : Exit) (text : List ℕ) (left rest old new : Option (List ℕ)) (faults risen : ℕ) → command ≡ true → IsVerdict exit text left rest faults risen → AppendsFront old new text → WritesFront command left (HasRisen faults risen) old new
-verdict_front command exit text left rest old new faults risen is_one v front = front_of command text left old new (HasRisen faults risen) is_one (text_of exit text left rest faults risen v) front
+pub verdict_prefix : (command : Bool) (exit : Exit) (text : List ℕ) (left rest old new : Option (List ℕ)) (faults risen : ℕ) → command ≡ true → IsVerdict exit text left rest faults risen → AppendsPrefix old new text → WritesPrefix command left (HasRisen faults risen) old new
+verdict_prefix command exit text left rest old new faults risen is_one v prefix = prefix_of command text left old new (HasRisen faults risen) is_one (text_of exit text left rest faults risen v) prefix
 
 -- an answer that isn't the write fault is the verdict's
 same_exit : (result exit answer : Exit) → (result ≡ exit) ⊎ (result ≡ WriteFault) → result ≡ answer → (answer ≡ WriteFault → ⊥) → exit ≡ answer

@@ -4,7 +4,7 @@ use Rattle.std.specs.Io.KnownBytes.{Appends, IsAtEnd}
 use Rattle.gz_model.specs.Faults.{HasRisen}
 use Rattle.gz_model.specs.Lines.{lines_of}
 use Rattle.gz_model.specs.Prefix.{IsPrefix}
-use Rattle.gz_model.specs.Told.{AppendsFront}
+use Rattle.gz_model.specs.Told.{AppendsPrefix}
 use Rattle.gz_scenario.specs.declared.error.ScenarioError.{ScenarioError}
 use Rattle.gz_base.specs.declared.exit.Exit.{Exit}
 use Rattle.gz_base.specs.declared.exit.Exit.TheVariants.{Done, Usage, BadInput, ReadFault, WriteFault, FileFault, PeerFault, Refused, Lost, NoMemory, Mismatch, HistoryFull, SpawnFault, BadPeer}
@@ -29,7 +29,7 @@ abbrev pub WritesRefusal : Option (List ℕ) → Option (List ℕ) → Option (L
 WritesRefusal None old new = ⊤
 WritesRefusal (Some input) old new = (refusal : ScenarioError) × (outcome_of input ≡ Err refusal) × Appends old new (refusal_line refusal)
 
--- the texts of which a front was written when the writing failed: the usage, where the words are no command; else a
+-- the texts of which a prefix was written when the writing failed: the usage, where the words are no command; else a
 -- report, a refusal, or the read fault, where the source's count rose
 abbrev pub IsReplayText : Option (List ℕ) → Type 0 → List ℕ → Type 0
 IsReplayText None risen text = ⊤
@@ -40,8 +40,8 @@ abbrev pub IsText : Bool → Option (List ℕ) → Type 0 → List ℕ → Type 
 IsText false input risen text = text ≡ usage_text
 IsText true input risen text = IsReplayText input risen text
 
-abbrev pub WritesFront : Bool → Option (List ℕ) → Type 0 → Option (List ℕ) → Option (List ℕ) → Type 0
-WritesFront command input risen old new = (text : List ℕ) × IsText command input risen text × AppendsFront old new text
+abbrev pub WritesPrefix : Bool → Option (List ℕ) → Type 0 → Option (List ℕ) → Option (List ℕ) → Type 0
+WritesPrefix command input risen old new = (text : List ℕ) × IsText command input risen text × AppendsPrefix old new text
 
 -- the promise, after each prefix of the lines that gives a world, which then has the events that they say
 abbrev pub KeepsAlong : Option (List ℕ) → Type 0

@@ -2,9 +2,9 @@
 ghost use Rattle.std.specs.Prelude.{◌≡◌, ◌≢◌, ◌≤◌, ◌⊎◌, map, string_bytes, true, false, IfOk};
 ghost use Rattle.std.specs.Io.KnownBytes.{Appends, Keeps, IsAtEnd};
 ghost use Rattle.gz_model.specs.Faults.{HasRisen};
-ghost use Rattle.gz_model.specs.Told.{AppendsFront};
+ghost use Rattle.gz_model.specs.Told.{AppendsPrefix};
 ghost use Rattle.gz_ctl.specs.Commands.{is_command, usage_text, read_fault_text};
-ghost use Rattle.gz_ctl.specs.Answers.{IsVerdict, WritesReport, WritesRefusal, WritesFront, KeepsAlong, IsAnswer, HasReport};
+ghost use Rattle.gz_ctl.specs.Answers.{IsVerdict, WritesReport, WritesRefusal, WritesPrefix, KeepsAlong, IsAnswer, HasReport};
 
 use gz_base::{Exit, Sink, Source, write_all};
 use gz_label::{Blob, NoMemory};
@@ -37,8 +37,10 @@ fn say<K: Sink>(output: &mut K, text: &[u8], exit: Exit) -> Exit
     requires { exit ≢ Exit.WriteFault }
     ensures answers { (result ≡ exit) ⊎ (result ≡ Exit.WriteFault) }
     ensures said { result ≡ exit → Appends (K.held output.old) (K.held output.new) text.now }
-    ensures front { result ≡ Exit.WriteFault → AppendsFront (K.held output.old) (K.held output.new) text.now }
-    ensures fault { result ≡ Exit.WriteFault → HasRisen (K.faults output.old) (K.faults output.new) }
+    ensures prefix { result ≡ Exit.WriteFault →
+        AppendsPrefix (K.held output.old) (K.held output.new) text.now }
+    ensures fault { result ≡ Exit.WriteFault →
+        HasRisen (K.faults output.old) (K.faults output.new) }
     ensures faults_stay { K.faults output.old ≤ K.faults output.new }
 {
     match write_all(output, text) {
@@ -49,7 +51,9 @@ fn say<K: Sink>(output: &mut K, text: &[u8], exit: Exit) -> Exit
 
 /// Replays the input, and says how that ends: with the report, with a refused line, or with the read fault.
 fn judge<S: Source>(alloc: Global, input: &mut S) -> Result<Verdict, NoMemory>
-    ensures verdict { IfOk result (λ v. IsVerdict v.exit v.text (S.left input.old) (S.left input.new) (S.faults input.old) (S.faults input.new)) }
+    ensures verdict { IfOk result
+        (λ v. IsVerdict v.exit v.text (S.left input.old) (S.left input.new) (S.faults input.old)
+        (S.faults input.new)) }
     ensures faults_stay { S.faults input.old ≤ S.faults input.new }
 {
     match replay(alloc, input) {
@@ -95,27 +99,44 @@ pub fn gazctl<S: Source, K: Sink>(
     output: &mut K,
 ) -> Exit
     // The words are no command, and the usage line was written.
-    ensures usage { result ≡ Exit.Usage → (is_command (map string_bytes words.now) ≡ false) × Appends (K.held output.old) (K.held output.new) usage_text }
-    ensures no_command { is_command (map string_bytes words.now) ≡ false → (result ≡ Exit.Usage) ⊎ (result ≡ Exit.WriteFault) }
+    ensures usage { result ≡ Exit.Usage →
+        (is_command (map string_bytes words.now) ≡ false)
+        × Appends (K.held output.old) (K.held output.new) usage_text }
+    ensures no_command { is_command (map string_bytes words.now) ≡ false →
+        (result ≡ Exit.Usage) ⊎ (result ≡ Exit.WriteFault) }
 
     // The report of the run of exactly the input's lines, which was read to its end, and of whose world the promise is kept.
-    ensures done { result ≡ Exit.Done → WritesReport (S.left input.old) (K.held output.old) (K.held output.new) × IsAtEnd (S.left input.new) }
+    ensures done { result ≡ Exit.Done →
+        WritesReport (S.left input.old) (K.held output.old) (K.held output.new)
+        × IsAtEnd (S.left input.new) }
     // It is kept after each of the lines, too.
     ensures exactly_once { KeepsAlong (S.left input.old) }
 
     // The first line that is refused, and why.
-    ensures bad_input { result ≡ Exit.BadInput → WritesRefusal (S.left input.old) (K.held output.old) (K.held output.new) }
+    ensures bad_input { result ≡ Exit.BadInput →
+        WritesRefusal (S.left input.old) (K.held output.old) (K.held output.new) }
 
     // A fault is answered only where it was counted in this call.
-    ensures read_fault { result ≡ Exit.ReadFault → HasRisen (S.faults input.old) (S.faults input.new) × Appends (K.held output.old) (K.held output.new) read_fault_text }
-    ensures write_fault { result ≡ Exit.WriteFault → HasRisen (K.faults output.old) (K.faults output.new) × WritesFront (is_command (map string_bytes words.now)) (S.left input.old) (HasRisen (S.faults input.old) (S.faults input.new)) (K.held output.old) (K.held output.new) }
+    ensures read_fault { result ≡ Exit.ReadFault →
+        HasRisen (S.faults input.old) (S.faults input.new)
+        × Appends (K.held output.old) (K.held output.new) read_fault_text }
+    ensures write_fault { result ≡ Exit.WriteFault →
+        HasRisen (K.faults output.old) (K.faults output.new)
+        × WritesPrefix (is_command (map string_bytes words.now)) (S.left input.old)
+        (HasRisen (S.faults input.old) (S.faults input.new)) (K.held output.old)
+        (K.held output.new) }
 
     // Memory ran out before anything was written.
     ensures no_memory { result ≡ Exit.NoMemory → Keeps (K.held output.old) (K.held output.new) }
     ensures answers { IsAnswer result }
 
     // Lawful lines within the limits, and no fault: the answer is Done, if memory is found.
-    ensures complete { is_command (map string_bytes words.now) ≡ true → HasReport (S.left input.old) → (result ≡ Exit.Done) ⊎ ((result ≡ Exit.NoMemory) ⊎ (HasRisen (S.faults input.old) (S.faults input.new) ⊎ HasRisen (K.faults output.old) (K.faults output.new))) }
+    ensures complete { is_command (map string_bytes words.now) ≡ true →
+        HasReport (S.left input.old) →
+        (result ≡ Exit.Done)
+        ⊎ ((result ≡ Exit.NoMemory)
+        ⊎ (HasRisen (S.faults input.old) (S.faults input.new)
+        ⊎ HasRisen (K.faults output.old) (K.faults output.new))) }
 {
     a_world_is_the_run_of_its_events();
     every_run_is_exactly_once();

@@ -28,7 +28,8 @@ pub fn one_send(alloc: Global, from: &Name, msg: Msg) -> Result<Sends, NoMemory>
 /// The name of a content that goes from begin to end; None exactly where there is no byte, the content hasn't that
 /// length, or it ends above 2^62.
 pub fn name_in_span(begin: u64, end: u64, content: &[u8]) -> Option<FragmentName>
-    ensures { result ≡ (if is_span begin end content.now then Some (content_name begin content.now) else None) }
+    ensures { result
+        ≡ (if is_span begin end content.now then Some (content_name begin content.now) else None) }
 {
     if begin >= end || content.len() as u64 != end - begin {
         return None;
@@ -101,7 +102,9 @@ fn first_bytes(bytes: &[u8]) -> &[u8]
 
 // The fragment's bytes from the offset on.
 fn bytes_from(alloc: Global, fragment: &Fragment, offset: u64) -> Result<Blob, NoMemory>
-    ensures { IfOk result (λ bytes. bytes ≡ take max_read (drop (offset - fragment.now.name.begin) fragment.now.content)) }
+    ensures { IfOk result
+        (λ bytes. bytes
+        ≡ take max_read (drop (offset - fragment.now.name.begin) fragment.now.content)) }
 {
     let start = offset.saturating_sub(fragment.name.begin());
     let rest = behind(fragment.content.as_slice(), start);

@@ -93,8 +93,10 @@ impl Depot {
         end: u64,
         content: Blob,
     ) -> Result<Sends, NoMemory>
-        ensures indexes { OnOk result (self.new ≡ (on_put from.now req journal begin end content self.old).indexes) }
-        ensures sends { IfOk result (λ sends. sends ≡ (on_put from.now req journal begin end content self.old).sends) }
+        ensures indexes { OnOk result
+            (self.new ≡ (on_put from.now req journal begin end content self.old).indexes) }
+        ensures sends { IfOk result
+            (λ sends. sends ≡ (on_put from.now req journal begin end content self.old).sends) }
     {
         match name_in_span(begin, end, content.as_slice()) {
             None => Ok(Sends::new(self.alloc)),
@@ -167,7 +169,8 @@ fn with_content(
     content: Blob,
 ) -> Result<Index, NoMemory>
     requires { name ≡ content_name name.begin content }
-    ensures { IfOk result (λ index. index ≡ added (record { name = name; content = content }) (unwrap_or found [])) }
+    ensures { IfOk result
+        (λ index. index ≡ added (record { name = name; content = content }) (unwrap_or found [])) }
 {
     let mut index = match found {
         None => Index::new(alloc),

@@ -26,7 +26,7 @@ fn put(
 }
 
 // The status and the bytes that the store answers to a get.
-fn get(alloc: Global, depot: &mut Depot, offset: u64) -> Result<Option<(u64, Blob)>, NoMemory> {
+fn get(alloc: Global, depot: &mut Depot, offset: u64) -> Result<Option<(u64, Blob)>, Fail> {
     let msg = Msg::StoreGet {
         req: 2,
         journal: Name::of(alloc, "x")?,
@@ -46,37 +46,80 @@ fn get(alloc: Global, depot: &mut Depot, offset: u64) -> Result<Option<(u64, Blo
     }
 }
 
-#[test]
-fn puts_and_gets(rt: HostRuntime) -> Result<(), Fail> {
-    let alloc = rt.alloc();
-    let mut depot = Depot::new(alloc);
-    for (client, begin, end, content, count) in [
-        (false, 0, 3, "abc", 1),
-        (false, 2, 6, "cdef", 1),
-        (true, 6, 7, "g", 0),
-        (false, 6, 8, "g", 0),
-        (false, 6, 6, "", 0),
-        (false, 0, 3, "abc", 1),
-    ] {
-        let sends = put(alloc, &mut depot, client, begin, end, content)?;
-        assert_eq!(rt; sends.as_slice().len(), count, "of {begin} to {end}");
-    }
-    for (offset, status, content) in [(0, 0, "abc"), (2, 0, "cdef"), (5, 0, "f"), (6, 1, "")] {
-        let Some((got, bytes)) = get(alloc, &mut depot, offset)? else {
-            return Err(Fail::from(NoMemory));
-        };
-        assert_eq!(rt; got, status, "at {offset}");
-        assert_eq!(rt; bytes.as_slice(), content.as_bytes(), "at {offset}");
-    }
+// How many names the store lists for a client, and to whom.
+fn list(alloc: Global, depot: &mut Depot, client: &str) -> Result<Option<(usize, bool)>, Fail> {
     let msg = Msg::StoreList {
         req: 3,
         journal: Name::of(alloc, "x")?,
     };
-    let sends = depot.step(&Name::of(alloc, "k1")?, true, msg)?;
-    let Some(send) = sends.as_slice().first() else {
-        return Err(Fail::from(NoMemory));
-    };
-    assert!(rt; matches!(&send.msg, Msg::StoreNames { names, .. } if names.as_slice().len() == 2));
-    assert_eq!(rt; send.to.as_str(), "k1");
+    let from = Name::read(alloc, client.as_bytes())?;
+    let sends = depot.step(&from, true, msg)?;
+    match sends.as_slice().first() {
+        Some(send) => match &send.msg {
+            Msg::StoreNames { names, .. } => {
+                Ok(Some((names.as_slice().len(), send.to.as_str() == client)))
+            }
+            _ => Ok(None),
+        },
+        None => Ok(None),
+    }
+}
+
+// How many messages the store sends for a put.
+fn count_of(
+    alloc: Global,
+    depot: &mut Depot,
+    client: bool,
+    span: (u64, u64),
+    content: &str,
+) -> Result<usize, Fail> {
+    let sends = put(alloc, depot, client, span.0, span.1, content)?;
+    Ok(sends.as_slice().len())
+}
+
+// The store with three fragments of `abcdef`, of which one is put twice.
+fn filled(alloc: Global) -> Result<Depot, Fail> {
+    let mut depot = Depot::new(alloc);
+    let _first = count_of(alloc, &mut depot, false, (0, 3), "abc")?;
+    let _second = count_of(alloc, &mut depot, false, (2, 6), "cdef")?;
+    let _again = count_of(alloc, &mut depot, false, (0, 3), "abc")?;
+    Ok(depot)
+}
+
+#[test]
+fn puts(rt: HostRuntime) -> Result<(), Fail> {
+    let alloc = rt.alloc();
+    let mut depot = filled(alloc)?;
+    assert_eq!(rt; count_of(alloc, &mut depot, false, (0, 3), "abc")?, 1);
+    assert_eq!(rt; count_of(alloc, &mut depot, true, (6, 7), "g")?, 0);
+    assert_eq!(rt; count_of(alloc, &mut depot, false, (6, 8), "g")?, 0);
+    assert_eq!(rt; count_of(alloc, &mut depot, false, (6, 6), "")?, 0);
+    Ok(())
+}
+
+#[test]
+fn gets(rt: HostRuntime) -> Result<(), Fail> {
+    let alloc = rt.alloc();
+    let mut depot = filled(alloc)?;
+    for (offset, status, content) in [
+        (0, 0, b"abc".as_slice()),
+        (2, 0, b"cdef"),
+        (5, 0, b"f"),
+        (6, 1, b""),
+    ] {
+        let Some((got, bytes)) = get(alloc, &mut depot, offset)? else {
+            return Err(Fail::new("no answer of a get"));
+        };
+        assert_eq!(rt; got, status, "at {offset}");
+        assert_eq!(rt; bytes.as_slice(), content, "at {offset}");
+    }
+    Ok(())
+}
+
+#[test]
+fn lists(rt: HostRuntime) -> Result<(), Fail> {
+    let alloc = rt.alloc();
+    let mut depot = filled(alloc)?;
+    assert_eq!(rt; list(alloc, &mut depot, "k1")?, Some((2, true)));
     Ok(())
 }

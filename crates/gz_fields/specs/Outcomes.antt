@@ -3,7 +3,7 @@ use Rattle.std.specs.Prelude.{◌≡◌, Result, Ok, Err, ⊤}
 use Rattle.gz_fields.specs.declared.error.FieldError.{FieldError}
 use Rattle.gz_fields.specs.declared.error.FieldError.TheVariants.{NotJson, BadField, BadName, BadNumber, Unsupported, Twice, NoMemory}
 
--- an error is the one that reading gives, with its path, or the want of memory
+-- an error is the one that reading gives, with its path, or out of memory
 abbrev pub Fails : {Y : Type 0} → FieldError → Result Y FieldError → Type 0
 Fails NotJson read = read ≡ Err NotJson
 Fails (BadField path) read = read ≡ Err (BadField path)

@@ -2,6 +2,8 @@
 
 use gz_label::{Blob, NoMemory};
 use std::alloc::{AllocError, AllocFailed};
+use std::error::Error;
+use std::fmt;
 
 /// Why a text isn't the JSON that is asked for. The path names the first offender in reading order, as
 /// `shards[0].sources[1].journal`; it begins at the outermost object, and is empty where that is none.
@@ -22,6 +24,22 @@ pub enum FieldError {
     /// Memory ran out.
     NoMemory,
 }
+
+impl fmt::Display for FieldError {
+    fn fmt<W: fmt::Write>(&self, f: &mut fmt::Formatter<W>) -> fmt::Result {
+        match self {
+            FieldError::NotJson => write!(f, "not JSON"),
+            FieldError::BadField { path } => write!(f, "bad field {path}"),
+            FieldError::BadName { path } => write!(f, "bad name {path}"),
+            FieldError::BadNumber { path } => write!(f, "bad number {path}"),
+            FieldError::Unsupported { path } => write!(f, "unsupported {path}"),
+            FieldError::Twice { path } => write!(f, "used before {path}"),
+            FieldError::NoMemory => write!(f, "out of memory"),
+        }
+    }
+}
+
+impl Error for FieldError {}
 
 impl From<NoMemory> for FieldError {
     ghost use Rattle.std.specs.Prelude.{◌≡◌};

@@ -34,7 +34,8 @@ pub fn refuse_unknown(
     value: &Value,
     names: &[&str],
 ) -> Result<(), FieldError>
-    ensures { Gives (λ u. u) result (has_only path.now (map (λ name. name.now) names.now) (view value.now)) }
+    ensures { Gives
+        (λ u. u) result (has_only path.now (map (λ name. name.now) names.now) (view value.now)) }
 {
     let Some(members) = value.as_object() else {
         return Err(FieldError::BadField { path: path.copy()? });
@@ -91,7 +92,8 @@ pub fn read_number(
     name: &str,
     range: Range,
 ) -> Result<u64, FieldError>
-    ensures { Gives (λ n. n) result (number_at range.least range.most path.now name.now (view value.now)) }
+    ensures { Gives
+        (λ n. n) result (number_at range.least range.most path.now name.now (view value.now)) }
 {
     let place = path_below(alloc, path, name)?;
     match value.get(name) {
@@ -109,7 +111,9 @@ pub fn read_number_or(
     default: u64,
     range: Range,
 ) -> Result<u64, FieldError>
-    ensures { Gives (λ n. n) result (number_or default range.least range.most path.now name.now (view value.now)) }
+    ensures { Gives
+        (λ n. n) result
+        (number_or default range.least range.most path.now name.now (view value.now)) }
 {
     match value.get(name) {
         None => Ok(default),
@@ -148,7 +152,8 @@ pub fn read_items<'a>(
     value: &'a Value,
     name: &str,
 ) -> Result<&'a [Value], FieldError>
-    ensures { Gives (λ items. items_view items.now) result (items_at path.now name.now (view value.now)) }
+    ensures { Gives
+        (λ items. items_view items.now) result (items_at path.now name.now (view value.now)) }
 {
     match value.get(name).and_then(Value::as_array) {
         Some(items) => Ok(items.as_slice()),
@@ -165,7 +170,8 @@ pub fn read_items_or_none<'a>(
     value: &'a Value,
     name: &str,
 ) -> Result<&'a [Value], FieldError>
-    ensures { Gives (λ items. items_view items.now) result (items_or_none path.now name.now (view value.now)) }
+    ensures { Gives
+        (λ items. items_view items.now) result (items_or_none path.now name.now (view value.now)) }
 {
     match value.get(name) {
         None => Ok(&[]),

@@ -13,7 +13,7 @@ refusal_of name content =
     then (if bytes_eq name.sum (sha1 content) then Ok tt else Err (Differs name name.sum (sha1 content)))
     else Err BadSpan
 
--- a refusal is the one that is to come, or the want of memory
+-- a refusal is the one that is to come, or out of memory
 abbrev pub Fails : {Y : Type 0} → FragmentError → Result Y FragmentError → Type 0
 Fails NoMemory answer = ⊤
 Fails e answer = answer ≡ Err e

@@ -63,7 +63,9 @@ impl Index {
 
     /// Name and content at this place of the list, counted from 0; None exactly past its end. It takes no memory.
     pub fn nth(&self, place: usize) -> Option<(&FragmentName, &Blob)>
-        ensures { option_map (λ found. record { name = found.0.now; content = found.1.now }) result ≡ slice_get self.now place }
+        ensures { option_map
+            (λ found. record { name = found.0.now; content = found.1.now }) result
+            ≡ slice_get self.now place }
     {
         match self.tree.nth(place) {
             None => None,
@@ -98,7 +100,8 @@ impl Index {
     /// nothing has changed.
     pub fn add(&mut self, name: FragmentName, content: Blob) -> Result<(), FragmentError>
         ensures answer { Gives result (refusal_of name content) }
-        ensures ok { OnOk result (self.new ≡ added (record { name = name; content = content }) self.old) }
+        ensures ok { OnOk result
+            (self.new ≡ added (record { name = name; content = content }) self.old) }
         ensures err { OnErr result (self.new ≡ self.old) }
     {
         check(&name, &content)?;

@@ -7,5 +7,6 @@ ghost use Rattle.gz_fragment.specs.Names.{FragmentName, IsName, name_text, name_
 #[tactic(auto, using(crate::proofs::NameTexts::read_back, crate::proofs::NameTexts::printed_back))]
 pub fn names_both_ways()
     ensures read { (name : FragmentName) → IsName name → name_in (name_text name) ≡ Some name }
-    ensures printed { (text : List ℕ) (name : FragmentName) → name_in text ≡ Some name → name_text name ≡ text }
+    ensures printed { (text : List ℕ) (name : FragmentName) → name_in text ≡ Some name →
+        name_text name ≡ text }
 {}

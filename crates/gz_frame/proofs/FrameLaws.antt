@@ -5,7 +5,7 @@ use Rattle.std.proofs.lemmas.Bool.{cases_lt}
 use Rattle.std.proofs.lemmas.List.{drop-append-le, take-append-le, get_or_default}
 use Rattle.std.proofs.lemmas.List.Elements.{All-drop, All-take, All-append, All-replicate}
 use Rattle.std.specs.Int.{w32, to_le_bytes}
-use Rattle.gz_frame.specs.Frame.{magic, first_other, low_first, length_in, frame_of, max_content, unframed, unframed_unless, IsFramed, IsFront}
+use Rattle.gz_frame.specs.Frame.{magic, first_other, low_first, length_in, frame_of, max_content, unframed, unframed_unless, IsFramed, IsPrefix}
 use Rattle.gz_frame.specs.declared.frame.FrameError.{FrameError}
 use Rattle.gz_frame.specs.declared.frame.FrameError.TheVariants.{NeedMore, BadMagic, TooLong}
 use Rattle.gz_frame.specs.declared.frame.Unframed.{Unframed}
@@ -53,7 +53,7 @@ used_at : (n m : ℕ) → found_at n ≡ found_at m → n ≡ m
 unfolding used_of
 used_at n m same = let e : 8 + n ≡ 8 + m = ap used_of same in omega arith
 
--- no frame is a proper front of another one
+-- no frame is a proper prefix of another one
 pub frames_apart : (content other more : List ℕ) → length content ≤ max_content → length other ≤ max_content →
     frame_of content ++ more ≡ frame_of other → more ≡ []
 frames_apart content other more short short_other same =
@@ -172,7 +172,7 @@ framed_if bytes place None begins fit found = framed_within bytes (length_in byt
 pub found_framed : (bytes : List ℕ) (place : Unframed) → All (λ byte. byte < 2 ^ 8) bytes → unframed bytes ≡ Ok place → IsFramed bytes place
 found_framed bytes place fit found = framed_if bytes place _ refl fit found
 
--- ---- more is needed exactly of a proper front of a frame
+-- ---- more is needed exactly of a proper prefix of a frame
 
 zeros_add : (xs : List ℕ) (k : ℕ) → low_first (xs ++ replicate k 0) ≡ low_first xs
 zeros_add [] zero = refl
@@ -180,9 +180,9 @@ zeros_add [] (suc k) = let rest : low_first (replicate k 0) ≡ 0 = zeros_add []
 zeros_add (x ∷ xs) k = ap (λ n. x + 2 ^ 8 * n) (zeros_add xs k)
 
 -- the head is there
-long_front : (bytes : List ℕ) (n : ℕ) → All (λ byte. byte < 2 ^ 8) bytes → first_other 0 magic bytes ≡ None → length_in bytes ≡ n → n ≤ max_content → length bytes < 8 + n → 8 ≤ length bytes →
-    IsFront bytes
-long_front bytes n fit begins len short part long =
+long_prefix : (bytes : List ℕ) (n : ℕ) → All (λ byte. byte < 2 ^ 8) bytes → first_other 0 magic bytes ≡ None → length_in bytes ≡ n → n ≤ max_content → length bytes < 8 + n → 8 ≤ length bytes →
+    IsPrefix bytes
+long_prefix bytes n fit begins len short part long =
     let four = take 4 (drop 4 bytes) in
     let tail = drop 8 bytes in
     let zeros : List ℕ = replicate (8 + n - length bytes) 0 in
@@ -205,9 +205,9 @@ long_front bytes n fit begins len short part long =
     }
 
 -- the magic is there, and a part of the length
-middle_front : (bytes : List ℕ) (n : ℕ) → All (λ byte. byte < 2 ^ 8) bytes → first_other 0 magic bytes ≡ None → length_in bytes ≡ n → n ≤ max_content → 4 ≤ length bytes → length bytes < 8 →
-    IsFront bytes
-middle_front bytes n fit begins len short some part =
+middle_prefix : (bytes : List ℕ) (n : ℕ) → All (λ byte. byte < 2 ^ 8) bytes → first_other 0 magic bytes ≡ None → length_in bytes ≡ n → n ≤ max_content → 4 ≤ length bytes → length bytes < 8 →
+    IsPrefix bytes
+middle_prefix bytes n fit begins len short some part =
     let low = drop 4 bytes in
     let missing : List ℕ = replicate (8 - length bytes) 0 in
     let zeros : List ℕ = replicate n 0 in
@@ -231,8 +231,8 @@ middle_front bytes n fit begins len short some part =
     }
 
 -- not even the magic is whole
-short_front : (bytes : List ℕ) → first_other 0 magic bytes ≡ None → length bytes < 4 → IsFront bytes
-short_front bytes begins part =
+short_prefix : (bytes : List ℕ) → first_other 0 magic bytes ≡ None → length bytes < 4 → IsPrefix bytes
+short_prefix bytes begins part =
     let rest = drop (length bytes) magic in
     let whole : bytes ++ rest ≡ magic = begins_part 0 magic bytes begins (omega arith) in
     record {
@@ -243,12 +243,12 @@ short_front bytes begins part =
       joined = sym (append_assoc bytes rest (to_le_bytes w32 0)) ∙ ap (λ b. b ++ to_le_bytes w32 0) whole;
     }
 
-front_at : (bytes : List ℕ) (n : ℕ) → All (λ byte. byte < 2 ^ 8) bytes → first_other 0 magic bytes ≡ None → length_in bytes ≡ n → n ≤ max_content → length bytes < 8 + n → IsFront bytes
-front_at bytes n fit begins len short part = elim (cases_lt (length bytes) 8) [
-  | inr long ↦ long_front bytes n fit begins len short part long
+prefix_at : (bytes : List ℕ) (n : ℕ) → All (λ byte. byte < 2 ^ 8) bytes → first_other 0 magic bytes ≡ None → length_in bytes ≡ n → n ≤ max_content → length bytes < 8 + n → IsPrefix bytes
+prefix_at bytes n fit begins len short part = elim (cases_lt (length bytes) 8) [
+  | inr long ↦ long_prefix bytes n fit begins len short part long
   | inl small ↦ elim (cases_lt (length bytes) 4) [
-    | inr some ↦ middle_front bytes n fit begins len short some small
-    | inl few ↦ short_front bytes begins few
+    | inr some ↦ middle_prefix bytes n fit begins len short some small
+    | inl few ↦ short_prefix bytes begins few
   ]
 ]
 
@@ -261,52 +261,52 @@ too_long same = cc
 bad_magic : (at : ℕ) → let r : Result Unframed FrameError = Err (BadMagic at) in r ≡ Err NeedMore → ⊥
 bad_magic at same = cc
 
-front_within : (bytes : List ℕ) (n : ℕ) (far short : Bool) → nat_lt max_content n ≡ far → nat_lt (length bytes) (8 + n) ≡ short →
+prefix_within : (bytes : List ℕ) (n : ℕ) (far short : Bool) → nat_lt max_content n ≡ far → nat_lt (length bytes) (8 + n) ≡ short →
     All (λ byte. byte < 2 ^ 8) bytes → first_other 0 magic bytes ≡ None → length_in bytes ≡ n →
-    cond far (Err TooLong) (cond short (Err NeedMore) (found_at n)) ≡ Err NeedMore → IsFront bytes
-front_within bytes n true short is_far is_short fit begins len needs = absurd (too_long needs)
-front_within bytes n false true is_far is_short fit begins len needs = front_at bytes n fit begins len (not_less is_far) (less is_short)
-front_within bytes n false false is_far is_short fit begins len needs = absurd (err_same needs)
+    cond far (Err TooLong) (cond short (Err NeedMore) (found_at n)) ≡ Err NeedMore → IsPrefix bytes
+prefix_within bytes n true short is_far is_short fit begins len needs = absurd (too_long needs)
+prefix_within bytes n false true is_far is_short fit begins len needs = prefix_at bytes n fit begins len (not_less is_far) (less is_short)
+prefix_within bytes n false false is_far is_short fit begins len needs = absurd (err_same needs)
 
-front_if : (bytes : List ℕ) (o : Option ℕ) → first_other 0 magic bytes ≡ o → All (λ byte. byte < 2 ^ 8) bytes → unframed_unless o bytes ≡ Err NeedMore → IsFront bytes
-front_if bytes (Some at) begins fit needs = absurd (bad_magic at needs)
-front_if bytes None begins fit needs = front_within bytes (length_in bytes) _ _ refl refl fit begins refl needs
+prefix_if : (bytes : List ℕ) (o : Option ℕ) → first_other 0 magic bytes ≡ o → All (λ byte. byte < 2 ^ 8) bytes → unframed_unless o bytes ≡ Err NeedMore → IsPrefix bytes
+prefix_if bytes (Some at) begins fit needs = absurd (bad_magic at needs)
+prefix_if bytes None begins fit needs = prefix_within bytes (length_in bytes) _ _ refl refl fit begins refl needs
 
--- where more is needed, the bytes are a front of a frame
-pub needed_front : (bytes : List ℕ) → All (λ byte. byte < 2 ^ 8) bytes → unframed bytes ≡ Err NeedMore → IsFront bytes
-needed_front bytes fit needs = front_if bytes _ refl fit needs
+-- where more is needed, the bytes are a prefix of a frame
+pub needed_prefix : (bytes : List ℕ) → All (λ byte. byte < 2 ^ 8) bytes → unframed bytes ≡ Err NeedMore → IsPrefix bytes
+needed_prefix bytes fit needs = prefix_if bytes _ refl fit needs
 
 -- ---- and the other way round
 
-front_same : (at : ℕ) (ms xs ys : List ℕ) → first_other at ms (xs ++ ys) ≡ None → first_other at ms xs ≡ None
-front_same at [] [] ys none = refl
-front_same at [] (x ∷ xs) ys none = refl
-front_same at (m ∷ ms) [] ys none = refl
-front_same at (m ∷ ms) (x ∷ xs) ys none =
+prefix_same : (at : ℕ) (ms xs ys : List ℕ) → first_other at ms (xs ++ ys) ≡ None → first_other at ms xs ≡ None
+prefix_same at [] [] ys none = refl
+prefix_same at [] (x ∷ xs) ys none = refl
+prefix_same at (m ∷ ms) [] ys none = refl
+prefix_same at (m ∷ ms) (x ∷ xs) ys none =
     let p = other_step m x at ms (xs ++ ys) (x == m) refl none in
-    rw (p.0, same_length m) (front_same (at + 1) ms xs ys p.1)
+    rw (p.0, same_length m) (prefix_same (at + 1) ms xs ys p.1)
 
-low_front : (k : ℕ) (xs ys : List ℕ) → low_first (take k xs) ≤ low_first (take k (xs ++ ys))
-low_front zero [] ys = omega arith
-low_front (suc k) [] ys = omega arith
-low_front zero (x ∷ xs) ys = omega arith
-low_front (suc k) (x ∷ xs) ys = let rest = low_front k xs ys in omega arith
+low_prefix : (k : ℕ) (xs ys : List ℕ) → low_first (take k xs) ≤ low_first (take k (xs ++ ys))
+low_prefix zero [] ys = omega arith
+low_prefix (suc k) [] ys = omega arith
+low_prefix zero (x ∷ xs) ys = omega arith
+low_prefix (suc k) (x ∷ xs) ys = let rest = low_prefix k xs ys in omega arith
 
-length_front : (bytes more : List ℕ) → length_in bytes ≤ length_in (bytes ++ more)
-length_front bytes more = elim (cases_lt (length bytes) 4) [
+length_prefix : (bytes more : List ℕ) → length_in bytes ≤ length_in (bytes ++ more)
+length_prefix bytes more = elim (cases_lt (length bytes) 4) [
   | inl few ↦ let none : drop 4 bytes ≡ [] = grind (arith, common_steps) in rw none (omega arith)
   | inr some ↦
       let behind : drop 4 (bytes ++ more) ≡ drop 4 bytes ++ more = drop-append-le 4 bytes more some in
-      let front = low_front 4 (drop 4 bytes) more in
-      rw behind front
+      let prefix = low_prefix 4 (drop 4 bytes) more in
+      rw behind prefix
 ]
 
 length_same : (bytes more : List ℕ) → 8 ≤ length bytes → length_in (bytes ++ more) ≡ length_in bytes
 length_same bytes more long =
     let behind : drop 4 (bytes ++ more) ≡ drop 4 bytes ++ more = drop-append-le 4 bytes more (omega arith) in
     let low_long : length (drop 4 bytes) ≡ length bytes - 4 = grind (arith, common_steps) in
-    let front : take 4 (drop 4 bytes ++ more) ≡ take 4 (drop 4 bytes) = take-append-le 4 (drop 4 bytes) more (omega arith) in
-    ap (λ b. low_first (take 4 b)) behind ∙ ap low_first front
+    let prefix : take 4 (drop 4 bytes ++ more) ≡ take 4 (drop 4 bytes) = take-append-le 4 (drop 4 bytes) more (omega arith) in
+    ap (λ b. low_first (take 4 b)) behind ∙ ap low_first prefix
 
 need_at : (bytes : List ℕ) (n : ℕ) → first_other 0 magic bytes ≡ None → length_in bytes ≡ n → n ≤ max_content → length bytes < 8 + n → unframed bytes ≡ Err NeedMore
 need_at bytes n begins len short part = rw (begins, len, not_above max_content n short, above (length bytes) (8 + n) part) refl
@@ -315,7 +315,7 @@ needs_part : (bytes content more : List ℕ) → length content ≤ max_content 
 needs_part bytes content more short some joined =
     let begins : first_other 0 magic (bytes ++ more) ≡ None = ap (first_other 0 magic) joined in
     let all : length_in (bytes ++ more) ≡ length content = ap length_in joined ∙ length_again (length content) content (omega arith) in
-    let front = length_front bytes more in
+    let prefix = length_prefix bytes more in
     let long : length (frame_of content) ≡ 8 + length content = grind (arith, common_steps) in
     let lens : length (bytes ++ more) ≡ length bytes + length more = grind (arith, common_steps) in
     let both : length (bytes ++ more) ≡ length (frame_of content) = ap length joined in
@@ -323,19 +323,19 @@ needs_part bytes content more short some joined =
       | inl small ↦ omega arith
       | inr whole ↦ let same = length_same bytes more whole in omega arith
     ] in
-    need_at bytes (length_in bytes) (front_same 0 magic bytes more begins) refl (omega arith) part
+    need_at bytes (length_in bytes) (prefix_same 0 magic bytes more begins) refl (omega arith) part
 
--- of a proper front of a frame more is needed
-pub front_needs : (bytes : List ℕ) → IsFront bytes → unframed bytes ≡ Err NeedMore
-front_needs bytes front = needs_part bytes front.content front.more front.short front.some front.joined
+-- of a proper prefix of a frame more is needed
+pub prefix_needs : (bytes : List ℕ) → IsPrefix bytes → unframed bytes ≡ Err NeedMore
+prefix_needs bytes prefix = needs_part bytes prefix.content prefix.more prefix.short prefix.some prefix.joined
 
 -- the same of what was returned
 pub found_if : (found : Result Unframed FrameError) (bytes : List ℕ) → All (λ byte. byte < 2 ^ 8) bytes → found ≡ unframed bytes → IfOk found (λ place. IsFramed bytes place)
 found_if (Ok place) bytes fit same = found_framed bytes place fit (sym same)
 found_if (Err e) bytes fit same = tt
 
-pub needed_if : (found : Result Unframed FrameError) (bytes : List ℕ) → All (λ byte. byte < 2 ^ 8) bytes → found ≡ unframed bytes → (found ≡ Err NeedMore) ↔ IsFront bytes
-needed_if found bytes fit same = (λ needs. needed_front bytes fit (sym same ∙ needs), λ front. same ∙ front_needs bytes front)
+pub needed_if : (found : Result Unframed FrameError) (bytes : List ℕ) → All (λ byte. byte < 2 ^ 8) bytes → found ≡ unframed bytes → (found ≡ Err NeedMore) ↔ IsPrefix bytes
+needed_if found bytes fit same = (λ needs. needed_prefix bytes fit (sym same ∙ needs), λ prefix. same ∙ prefix_needs bytes prefix)
 
 -- bytes of a slice are below 256
 pub slice_fits : (bytes : List ℕ) → ((i : ℕ) → Fits w8 (get_or bytes i 0)) → All (λ byte. byte < 2 ^ 8) bytes

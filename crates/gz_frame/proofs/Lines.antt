@@ -100,7 +100,7 @@ quoted_clean s = clean_append (escape s) (34 ∷ []) (escape_clean s) refl
 quoted_length : (s : List ℕ) → length (quoted s) ≤ 6 * length s + 2
 quoted_length s = let short = escape_length s in grind (arith, common_steps)
 
--- ---- a member whose value is a text, in front of what follows
+-- ---- a member whose value is a text, before what follows
 
 abbrev member_text : Bool → List ℕ → List ℕ → List ℕ → List ℕ
 member_text later name text rest = comma_if later ++ (quoted name ++ 58 ∷ (quoted text ++ rest))
@@ -146,9 +146,6 @@ id_text m = hyphenated_text lower (identifier m.producer m.clock m.flags)
 
 abbrev object_text : Message → List ℕ
 object_text m = 123 ∷ member_text false (codes "key") m.key (member_text true (codes "uuid") (id_text m) (member_text true (codes "value") m.value (125 ∷ [])))
-
-object_is : (m : Message) → compact_text (data_of m) ≡ object_text m
-object_is m = refl
 
 object_read : (m : Message) → read (object_text m) ≡ Some (data_of m)
 object_read m = outline_read m

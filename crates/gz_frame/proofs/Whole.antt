@@ -29,8 +29,8 @@ no_more at = omega arith
 moved : (a b c : ℕ) → a + b + c ≡ a + (b + c)
 moved a b c = omega arith
 
-pub messages_in_append : (at : ℕ) (front back : List (List ℕ)) →
-    messages_in at (front ++ back) ≡ messages_in at front ++ messages_in (at + bytes_in front) back
+pub messages_in_append : (at : ℕ) (prefix back : List (List ℕ)) →
+    messages_in at (prefix ++ back) ≡ messages_in at prefix ++ messages_in (at + bytes_in prefix) back
 messages_in_append at [] back = ap (λ n. messages_in n back) (no_more at)
 messages_in_append at (line ∷ lines) back =
     ap (λ ms. placed_at at (length line) (message_of line) ++ ms) (messages_in_append (at + length line) lines back)
@@ -50,15 +50,12 @@ step : (b c : ℕ) (here there : Bool) (ls both back : List (List ℕ)) → both
 step b c true there ls both back same = ap (λ x. (b ∷ []) ∷ x) same
 step b c false there ls both back same = ap (λ x. onto b x) same ∙ onto_append b c there ls back
 
-is_newline : (b : ℕ) → (b == newline) ≡ true → b ≡ newline
-is_newline b same = grind (arith, common_steps)
-
 lines_append : (b : ℕ) (bs back : List ℕ) → (last_of b bs == newline) ≡ true →
     lines_of (b ∷ (bs ++ back)) ≡ lines_of (b ∷ bs) ++ lines_of back
 lines_append b [] back ends = rw ends refl
 lines_append b (c ∷ cs) back ends = step b c (b == newline) (c == newline) (lines_of cs) (lines_of (c ∷ (cs ++ back))) (lines_of back) (lines_append c cs back ends)
 
-pub lines_of_append : (front back : List ℕ) → is_whole front ≡ true → lines_of (front ++ back) ≡ lines_of front ++ lines_of back
+pub lines_of_append : (prefix back : List ℕ) → is_whole prefix ≡ true → lines_of (prefix ++ back) ≡ lines_of prefix ++ lines_of back
 lines_of_append [] back whole = refl
 lines_of_append (b ∷ bs) back whole = lines_append b bs back whole
 
@@ -78,13 +75,13 @@ bytes_of_lines [] = refl
 bytes_of_lines (b ∷ bs) = bytes_step b (b == newline) (lines_of bs) ∙ more_length b bs _ (bytes_of_lines bs)
 
 -- the messages of a text of whole lines, and those of what follows
-pub messages_joined : (at : ℕ) (front back : List ℕ) → is_whole front ≡ true →
-    messages_of at (front ++ back) ≡ messages_of at front ++ messages_of (at + length front) back
+pub messages_joined : (at : ℕ) (prefix back : List ℕ) → is_whole prefix ≡ true →
+    messages_of at (prefix ++ back) ≡ messages_of at prefix ++ messages_of (at + length prefix) back
 unfolding messages_of
-messages_joined at front back whole =
-    ap (λ ls. messages_in at ls) (lines_of_append front back whole)
-    ∙ messages_in_append at (lines_of front) (lines_of back)
-    ∙ ap (λ n. messages_in at (lines_of front) ++ messages_in (at + n) (lines_of back)) (bytes_of_lines front)
+messages_joined at prefix back whole =
+    ap (λ ls. messages_in at ls) (lines_of_append prefix back whole)
+    ∙ messages_in_append at (lines_of prefix) (lines_of back)
+    ∙ ap (λ n. messages_in at (lines_of prefix) ++ messages_in (at + n) (lines_of back)) (bytes_of_lines prefix)
 
 -- ---- the first line of a text
 
@@ -185,9 +182,9 @@ prefix_from at whole rest back lines none = (
       ∙ ap (λ text. messages_of at text) (sym (append_assoc whole rest back)),
 )
 
--- the messages of a front of a text are a front of its messages
-pub messages_prefix : (at : ℕ) (front back : List ℕ) → IsPrefix (messages_of at front) (messages_of at (front ++ back))
-messages_prefix at front back =
-    let s = split_of front in
+-- the messages of a prefix of a text are a prefix of its messages
+pub messages_prefix : (at : ℕ) (prefix back : List ℕ) → IsPrefix (messages_of at prefix) (messages_of at (prefix ++ back))
+messages_prefix at prefix back =
+    let s = split_of prefix in
     let P : List ℕ → Type 0 = λ text. IsPrefix (messages_of at text) (messages_of at (text ++ back)) in
     subst P s.joined (prefix_from at s.whole s.rest back s.lines s.open_end)

@@ -1,4 +1,4 @@
--- Frames: bytes with their length in front, after Gazette's fixed framing.
+-- Frames: bytes preceded by their length, after Gazette's fixed framing.
 use Rattle.std.specs.Prelude.{ℕ, slice_range, ◌<◌, ◌≤◌, ◌+◌, ◌*◌, ◌^◌, ◌==◌, List, [], ◌∷◌, ◌++◌, length, take, drop, Option, Some, None, Result, Ok, Err, ⊤, ◌≡◌, if◌then◌else◌, nat_lt}
 use Rattle.std.specs.Int.{w32, to_le_bytes}
 use Rattle.gz_frame.specs.declared.frame.FrameError.{FrameError}
@@ -32,7 +32,7 @@ low_first (b ∷ bs) = b + 2 ^ 8 * low_first bs
 abbrev pub length_in : List ℕ → ℕ
 length_in bytes = low_first (take 4 (drop 4 bytes))
 
--- where a frame of a content of so many bytes stands at the front of so many bytes
+-- where a frame of a content of so many bytes stands at the start of so many bytes
 abbrev pub unframed_within : ℕ → ℕ → Result Unframed FrameError
 unframed_within len have =
     if nat_lt max_content len then Err TooLong
@@ -51,7 +51,7 @@ unframed bytes = unframed_unless (first_other 0 magic bytes) bytes
 abbrev pub framed : List ℕ → Result (List ℕ) FrameError
 framed content = if nat_lt max_content (length content) then Err TooLong else Ok (frame_of content)
 
--- an error is the one that framing gives, or the want of memory
+-- an error is the one that framing gives, or out of memory
 abbrev pub Fails : {Y : Type 0} → FrameError → Result Y FrameError → Type 0
 Fails NeedMore framing = framing ≡ Err NeedMore
 Fails (BadMagic at) framing = framing ≡ Err (BadMagic at)
@@ -63,15 +63,15 @@ abbrev pub Gives : {Y : Type 0} → Result Y FrameError → Result Y FrameError 
 Gives (Ok x) framing = framing ≡ Ok x
 Gives (Err e) framing = Fails e framing
 
--- A frame stands at the front of the bytes, with its content at this place.
+-- A frame stands at the start of the bytes, with its content at this place.
 pub record IsFramed (bytes : List ℕ) (place : Unframed) : Type 0 where
   pub starts : place.begin ≡ 8
   pub ends : place.end ≡ place.used
   pub short : length (slice_range bytes place.begin place.end) ≤ max_content
   pub joined : frame_of (slice_range bytes place.begin place.end) ++ drop place.used bytes ≡ bytes
 
--- the bytes are the front of a frame, and not all of it
-pub record IsFront (bytes : List ℕ) : Type 0 where
+-- the bytes are a prefix of a frame, and not all of it
+pub record IsPrefix (bytes : List ℕ) : Type 0 where
   pub content : List ℕ
   pub more : List ℕ
   pub short : length content ≤ max_content

@@ -27,14 +27,14 @@ since_end [] = []
 since_end (m ∷ ms) = if list_any is_end (m ∷ ms) then since_end ms else m ∷ ms
 
 -- those whose clock is above every earlier one's, and above the top
-abbrev pub rising : Option ℕ → List Message → List Message
-rising top [] = []
-rising top (m ∷ ms) = if is_above top m.clock then m ∷ rising (Some m.clock) ms else rising top ms
+abbrev pub ascending : Option ℕ → List Message → List Message
+ascending top [] = []
+ascending top (m ∷ ms) = if is_above top m.clock then m ∷ ascending (Some m.clock) ms else ascending top ms
 
 -- What waits for the producer's acknowledgement: the CONTINUE messages since its last ACK or OUTSIDE message
 -- whose clock is above the greatest of these, each above every earlier one of them.
 abbrev pub chain : List Message → List Message
-chain history = rising None (filter (λ m. is_above (greatest history) m.clock) (since_end history))
+chain history = ascending None (filter (λ m. is_above (greatest history) m.clock) (since_end history))
 
 -- What a message releases after the earlier messages of its producer. An ACK releases what waits, up to its own
 -- clock; an OUTSIDE message releases itself, unless it is a repeat; a CONTINUE message releases nothing.
@@ -51,15 +51,3 @@ of_producer producer ms = filter (λ m. bytes_eq m.producer producer) ms
 pub record Release : Type 0 where
   pub message : Message
   pub end : ℕ
-
--- the end of the text that a list of messages is, where `line` gives each message's line
-abbrev pub end_from : (Message → List ℕ) → ℕ → List Message → ℕ
-end_from line at [] = at
-end_from line at (m ∷ ms) = end_from line (at + length (line m)) ms
-
--- what the messages release in order, where they begin at an offset and follow on a history
-abbrev pub committed_from : (Message → List ℕ) → ℕ → List Message → List Message → List Release
-committed_from line at history [] = []
-committed_from line at history (m ∷ ms) =
-    map (λ r. record { message = r; end = at + length (line m) }) (released (of_producer m.producer history) m)
-    ++ committed_from line (at + length (line m)) (history ++ m ∷ []) ms

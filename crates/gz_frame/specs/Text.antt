@@ -12,12 +12,12 @@ use Rattle.gz_frame.specs.Messages.{Message, message_if}
 abbrev pub max_line : ℕ
 max_line = 65536
 
--- what stands in front of a newline that only ends a line
+-- what stands before a newline that only ends a line
 abbrev pub ended_by : List ℕ → Option (List ℕ)
 ended_by [] = Some []
 ended_by (b ∷ bs) = None
 
--- the bytes in front of the newline, where a newline ends the line and no other one stands in it
+-- the bytes before the newline, where a newline ends the line and no other one stands in it
 abbrev pub content_of : List ℕ → Option (List ℕ)
 content_of [] = None
 content_of (b ∷ bs) = if b == newline then ended_by bs else option_map (λ content. b ∷ content) (content_of bs)
@@ -52,7 +52,7 @@ message_in d =
     message_with id key value) (parsed uuid)) (text_at (codes "uuid") d)) (text_at (codes "value") d)) (text_at (codes "key") d)
     else None
 
--- the message of the JSON that stands in front of a line's newline
+-- the message of the JSON that stands before a line's newline
 abbrev pub message_read : List ℕ → Option Message
 message_read content = option_and_then message_in (json_of content)
 

@@ -1,14 +1,16 @@
-//! Frames: bytes with their length in front.
+//! Frames: bytes preceded by their length.
 ghost use Rattle.std.specs.Prelude.{◌≡◌, ◌↔◌, get_or, Err, IfOk};
-ghost use Rattle.gz_frame.specs.Frame.{magic, first_other, framed, length_in, unframed_within, unframed, IsFramed, IsFront, Gives};
+ghost use Rattle.gz_frame.specs.Frame.{magic, first_other, framed, length_in, unframed_within, unframed, IsFramed, IsPrefix, Gives};
 
 use gz_label::{Blob, NoMemory};
 use std::alloc::{AllocError, Global};
+use std::error::Error;
+use std::fmt;
 
 /// The bytes with which a frame begins.
 const MAGIC: [u8; 4] = [0x66, 0x33, 0x93, 0x36];
 
-/// How many bytes stand in front of the content.
+/// How many bytes stand before the content.
 const HEAD: usize = 8;
 
 /// The most bytes of a content.
@@ -26,7 +28,7 @@ pub struct Unframed {
 /// Why there is no frame.
 #[derive(Clone, Copy, Debug, PartialEq, Eq)]
 pub enum FrameError {
-    /// The bytes are the front of a frame, and not all of it.
+    /// The bytes are a prefix of a frame, and not all of it.
     NeedMore,
     /// This byte, counted from 0 and below 4, is the first that isn't the one with which frames have it.
     BadMagic { at: usize },
@@ -35,6 +37,19 @@ pub enum FrameError {
     /// Memory ran out.
     NoMemory,
 }
+
+impl fmt::Display for FrameError {
+    fn fmt<W: fmt::Write>(&self, f: &mut fmt::Formatter<W>) -> fmt::Result {
+        match self {
+            FrameError::NeedMore => write!(f, "the frame isn't whole"),
+            FrameError::BadMagic { at } => write!(f, "byte {at} isn't a frame's"),
+            FrameError::TooLong => write!(f, "the frame is too long"),
+            FrameError::NoMemory => write!(f, "out of memory"),
+        }
+    }
+}
+
+impl Error for FrameError {}
 
 impl From<NoMemory> for FrameError {
     ghost use Rattle.std.specs.Prelude.{◌≡◌};
@@ -105,7 +120,7 @@ fn length_in(bytes: &[u8]) -> usize
     low + 0x1_0000 * high
 }
 
-/// Where a frame of a content of so many bytes stands at the front of so many bytes.
+/// Where a frame of a content of so many bytes stands at the start of so many bytes.
 fn within(len: usize, have: usize) -> Result<Unframed, FrameError>
     ensures { result ≡ unframed_within len have }
 {
@@ -122,13 +137,13 @@ fn within(len: usize, have: usize) -> Result<Unframed, FrameError>
     })
 }
 
-/// The frame with which the bytes begin. NeedMore exactly where they are the front of a frame, and not all of
+/// The frame with which the bytes begin. NeedMore exactly where they are a prefix of a frame, and not all of
 /// it; so TooLong comes as soon as the bytes of the length that are there say so. It takes no memory.
-#[tactic(auto, using(crate::proofs::FrameLaws::found_framed, crate::proofs::FrameLaws::needed_front, crate::proofs::FrameLaws::front_needs))]
+#[tactic(auto, using(crate::proofs::FrameLaws::found_framed, crate::proofs::FrameLaws::needed_prefix, crate::proofs::FrameLaws::prefix_needs))]
 pub fn unframe(bytes: &[u8]) -> Result<Unframed, FrameError>
     ensures value { result ≡ unframed bytes.now }
     ensures frame { IfOk result (λ place. IsFramed bytes.now place) }
-    ensures front { (result ≡ Err FrameError.NeedMore) ↔ IsFront bytes.now }
+    ensures prefix { (result ≡ Err FrameError.NeedMore) ↔ IsPrefix bytes.now }
 {
     if let Some(at) = first_other(bytes) {
         return Err(FrameError::BadMagic { at });

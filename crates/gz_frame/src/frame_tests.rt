@@ -23,7 +23,7 @@ fn frame_of_three_bytes(rt: HostRuntime) -> Result<(), Fail> {
     Ok(())
 }
 
-// Each row is the front of 66 33 93 36 of so many bytes, then the others, and what comes of them.
+// Each row is the prefix of 66 33 93 36 of so many bytes, then the others, and what comes of them.
 #[test]
 fn bytes_that_are_no_frame(rt: HostRuntime) -> Result<(), Fail> {
     let alloc = rt.alloc();

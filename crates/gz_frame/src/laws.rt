@@ -12,14 +12,15 @@ ghost use Rattle.gz_frame.specs.Text.{messages_of, message_of, placed_at, is_who
 /// second, which begins where the first ends.
 #[tactic(auto, using(crate::proofs::Whole::messages_joined))]
 pub fn messages_of_joined_texts()
-    ensures { (at : ℕ) (front back : List ℕ) → is_whole front ≡ true →
-        messages_of at (front ++ back) ≡ messages_of at front ++ messages_of (at + length front) back }
+    ensures { (at : ℕ) (prefix back : List ℕ) → is_whole prefix ≡ true →
+        messages_of at (prefix ++ back) ≡ messages_of at prefix ++ messages_of (at + length prefix) back }
 {}
 
-/// The messages of a front of a text are a front of its messages, wherever the text is cut.
+/// The messages of a prefix of a text are a prefix of its messages, wherever the text is cut.
 #[tactic(auto, using(crate::proofs::Whole::messages_prefix))]
-pub fn messages_of_a_front()
-    ensures { (at : ℕ) (front back : List ℕ) → IsPrefix (messages_of at front) (messages_of at (front ++ back)) }
+pub fn messages_of_a_prefix()
+    ensures { (at : ℕ) (prefix back : List ℕ) →
+        IsPrefix (messages_of at prefix) (messages_of at (prefix ++ back)) }
 {}
 
 /// A text's messages are that of its first line, where this is one, and those behind the line; without a
@@ -31,12 +32,13 @@ pub fn messages_line_by_line()
     ensures last { (at : ℕ) (text : List ℕ) → line_len text ≡ None → messages_of at text ≡ [] }
 {}
 
-/// A frame is found wherever bytes begin with it, and no frame is a proper front of another one.
+/// A frame is found wherever bytes begin with it, and no frame is a proper prefix of another one.
 #[tactic(auto, using(crate::proofs::FrameLaws::frame_found, crate::proofs::FrameLaws::frames_apart))]
 pub fn frames_stand_apart()
     ensures found { (content rest : List ℕ) → length content ≤ max_content →
         unframed (frame_of content ++ rest) ≡ Ok (record { begin = 8; end = 8 + length content; used = 8 + length content }) }
-    ensures apart { (content other more : List ℕ) → length content ≤ max_content → length other ≤ max_content →
+    ensures apart { (content other more : List ℕ) → length content ≤ max_content →
+        length other ≤ max_content →
         frame_of content ++ more ≡ frame_of other → more ≡ [] }
 {}
 
@@ -44,6 +46,7 @@ pub fn frames_stand_apart()
 /// those of an identifier.
 #[tactic(auto, using(crate::proofs::Lines::lawful_line_reads_back))]
 pub fn lines_read_back()
-    ensures { (m : Message) → is_message m ≡ true → AreParts m.producer m.clock m.flags → All (λ octet. octet < 2 ^ 8) m.producer →
+    ensures { (m : Message) → is_message m ≡ true → AreParts m.producer m.clock m.flags →
+        All (λ octet. octet < 2 ^ 8) m.producer →
         message_of (line_of m) ≡ Some m }
 {}

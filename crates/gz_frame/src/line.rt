@@ -54,7 +54,7 @@ pub fn print_line(alloc: Global, message: &Message) -> Result<Blob, NoMemory>
     Ok(line)
 }
 
-/// What stands in front of the newline, where a newline ends the line and no other one stands in it.
+/// What stands before the newline, where a newline ends the line and no other one stands in it.
 fn content_of(line: &[u8]) -> Option<&[u8]>
     ensures { option_map (λ content. content.now) result ≡ content_of line.now }
 {
@@ -130,7 +130,7 @@ fn message_in(alloc: Global, value: &Value) -> Result<Option<Message>, NoMemory>
 }
 
 /// The message that the line is. None exactly where it is no message line: where it is longer than 65,536
-/// bytes, its newline isn't its last byte and its only one, what stands in front of that isn't a JSON object
+/// bytes, its newline isn't its last byte and its only one, what stands before that isn't a JSON object
 /// with exactly the members key, uuid and value, all texts, the key or the value is longer than 256 or 4,096
 /// bytes, or the uuid isn't the text of an identifier with the flags of CONTINUE, OUTSIDE or ACK.
 #[tactic(auto, unfolding(crate::specs::Text::message_of))]

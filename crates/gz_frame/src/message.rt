@@ -36,7 +36,8 @@ impl Model for Message {
 /// The bytes as a text, where they are one of at most so many bytes. It takes no memory.
 #[tactic(auto, using(crate::proofs::Texts::is_text, crate::proofs::Texts::is_no_text, crate::proofs::Texts::is_long_text))]
 fn text_within(bytes: Blob, most: usize) -> Option<String>
-    ensures { MatchOption result (is_text_within most bytes ≡ false) (λ text. (is_text_within most bytes ≡ true) × (string_bytes text ≡ bytes)) }
+    ensures { MatchOption result (is_text_within most bytes ≡ false)
+        (λ text. (is_text_within most bytes ≡ true) × (string_bytes text ≡ bytes)) }
 {
     if bytes.len() > most {
         return None;
@@ -55,7 +56,15 @@ impl Message {
     /// is longer than 256 or 4,096 bytes, or the flags aren't those of CONTINUE, OUTSIDE or ACK. It takes
     /// no memory.
     pub fn new(parts: Parts, key: Blob, value: Blob) -> Option<Message>
-        ensures { result ≡ message_if (record { producer = parts.producer; clock = parts.clock; flags = parts.flags; key = key; value = value }) }
+        ensures { result
+            ≡ message_if
+            (record {
+              producer = parts.producer;
+              clock = parts.clock;
+              flags = parts.flags;
+              key = key;
+              value = value;
+            }) }
     {
         let key = text_within(key, MAX_KEY)?;
         let value = text_within(value, MAX_VALUE)?;
@@ -71,7 +80,14 @@ impl Message {
         requires short_key { length (string_bytes key) ≤ 256 }
         requires short_value { length (string_bytes value) ≤ 4096 }
         requires known_flags { parts.flags ≤ 2 }
-        ensures { result ≡ record { producer = parts.producer; clock = parts.clock; flags = parts.flags; key = string_bytes key; value = string_bytes value } }
+        ensures { result
+            ≡ record {
+              producer = parts.producer;
+              clock = parts.clock;
+              flags = parts.flags;
+              key = string_bytes key;
+              value = string_bytes value;
+            } }
     {
         let _key = key.as_str();
         let _value = value.as_str();

@@ -75,15 +75,15 @@ placed_push (p ∷ ps) begin q placed ends =
 pub placed_more : (ps : List Placed) (q : Placed) → are_placed 0 ps ≡ true → q.end ≡ end_of (entries_of ps) + length q.entry.bytes → are_placed 0 (ps ++ q ∷ []) ≡ true
 placed_more ps q placed ends = placed_push ps 0 q placed (omega arith)
 
--- those in front are placed as well
-pub placed_front : (ps : List Placed) (begin n : ℕ) → are_placed begin ps ≡ true → are_placed begin (take n ps) ≡ true
-placed_front [] begin zero placed = refl
-placed_front [] begin (suc n) placed = refl
-placed_front (p ∷ ps) begin zero placed = refl
-placed_front (p ∷ ps) begin (suc n) placed =
+-- the first ones are placed as well
+pub placed_prefix : (ps : List Placed) (begin n : ℕ) → are_placed begin ps ≡ true → are_placed begin (take n ps) ≡ true
+placed_prefix [] begin zero placed = refl
+placed_prefix [] begin (suc n) placed = refl
+placed_prefix (p ∷ ps) begin zero placed = refl
+placed_prefix (p ∷ ps) begin (suc n) placed =
     rw (
       both_left (p.end == begin + length p.entry.bytes) (are_placed p.end ps) placed,
-      placed_front ps p.end n (both_right (p.end == begin + length p.entry.bytes) (are_placed p.end ps) placed),
+      placed_prefix ps p.end n (both_right (p.end == begin + length p.entry.bytes) (are_placed p.end ps) placed),
     ) refl
 
 -- the registers are those of the last entry
@@ -148,8 +148,8 @@ part_behind es fs offset limit before =
 pub part_from : (ps : List Placed) (n offset limit : ℕ) → end_of (take n (entries_of ps)) ≤ offset
     → part_of (offset - end_of (entries_of (take n ps))) limit (entries_of (drop n ps)) ≡ part_of offset limit (entries_of ps)
 part_from ps n offset limit before =
-    let front : take n (entries_of ps) ≡ entries_of (take n ps) = take-map (λ (q : Placed). q.entry) n ps in
-    let within : end_of (entries_of (take n ps)) ≤ offset = rw front at before in
+    let prefix : take n (entries_of ps) ≡ entries_of (take n ps) = take-map (λ (q : Placed). q.entry) n ps in
+    let within : end_of (entries_of (take n ps)) ≤ offset = rw prefix at before in
     let whole : entries_of (take n ps) ++ entries_of (drop n ps) ≡ entries_of ps =
     rw (← map-append (λ (q : Placed). q.entry) (take n ps) (drop n ps), take-append-drop n ps) refl in
     part_behind (entries_of (take n ps)) (entries_of (drop n ps)) offset limit within ∙ ap (λ (es : List Entry). part_of offset limit es) whole

@@ -134,7 +134,8 @@ impl JournalState {
     /// nothing has changed.
     pub fn land(&mut self, request: &Request) -> Result<Landed, NoMemory>
         ensures answer { IfOk result (λ landed. landed ≡ (judged_of self.old request.now).landed) }
-        ensures ok { OnOk result (self.new ≡ appended (judged_of self.old request.now) request.now self.old) }
+        ensures ok { OnOk result
+            (self.new ≡ appended (judged_of self.old request.now) request.now self.old) }
         ensures err { OnErr result (self.new ≡ self.old) }
     {
         let judged = judge(self.end(), self.registers(), request)?;
@@ -149,8 +150,11 @@ impl JournalState {
     /// Appends the content at the end, wherever that is, and leaves the registers as they are: it lands, or the journal would
     /// end above the limit. After NoMemory nothing has changed.
     pub fn append(&mut self, attempt: Attempt, content: Blob) -> Result<Landed, NoMemory>
-        ensures answer { IfOk result (λ landed. landed ≡ (judged_of self.old (plain attempt content)).landed) }
-        ensures ok { OnOk result (self.new ≡ appended (judged_of self.old (plain attempt content)) (plain attempt content) self.old) }
+        ensures answer { IfOk result
+            (λ landed. landed ≡ (judged_of self.old (plain attempt content)).landed) }
+        ensures ok { OnOk result
+            (self.new ≡ appended (judged_of self.old (plain attempt content))
+            (plain attempt content) self.old) }
         ensures err { OnErr result (self.new ≡ self.old) }
     {
         let request = Request::plain(*self.placed.allocator(), attempt, content);
@@ -173,7 +177,7 @@ impl JournalState {
         Ok(())
     }
 
-    #[tactic(auto, using(crate::proofs::Ends::placed_front, crate::proofs::Ends::part_behind))]
+    #[tactic(auto, using(crate::proofs::Ends::placed_prefix, crate::proofs::Ends::part_behind))]
     /// The text from the offset on, at most `limit` bytes of it, and none at or past the end.
     pub fn read_at(&self, offset: u64, limit: u64) -> Result<Blob, NoMemory>
         ensures { IfOk result (λ text. text ≡ part_of offset limit self.now) }

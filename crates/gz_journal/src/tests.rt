@@ -27,7 +27,7 @@ fn request(
 }
 
 // What is answered, as a word and a number.
-fn shown(landed: &Landed) -> (u8, u64) {
+fn code_of(landed: &Landed) -> (u8, u64) {
     match landed {
         Landed::Landed { end, .. } => (b'l', *end),
         Landed::WrongOffset { head } => (b'w', *head),
@@ -90,7 +90,7 @@ fn appends(rt: HostRuntime) -> Result<(), Fail> {
     ] {
         let request = request(alloc, offset, selector, take, add, content)?;
         let landed = journal.land(&request.copy()?)?;
-        assert_eq!(rt; shown(&landed), answer);
+        assert_eq!(rt; code_of(&landed), answer);
         assert_eq!(rt; journal.registers().print()?.as_slice(), registers);
     }
     assert_eq!(rt; journal.end(), 5);
@@ -127,7 +127,7 @@ fn appends_at_the_end(rt: HostRuntime) -> Result<(), Fail> {
         };
         let landed = journal.append(attempt, Blob::of(alloc, content)?)?;
         assert!(rt; landed.is_landed());
-        assert_eq!(rt; shown(&landed), (b'l', end));
+        assert_eq!(rt; code_of(&landed), (b'l', end));
         assert_eq!(rt; journal.registers().print()?.as_slice(), b"a=1".as_slice());
     }
     assert_eq!(rt; journal.read_at(0, 9)?.as_slice(), b"abcde".as_slice());
@@ -145,7 +145,7 @@ fn ends(rt: HostRuntime) -> Result<(), Fail> {
         ((1 << 62) - 2, (b't', 1 << 62)),
     ] {
         let judged = crate::judge(end, &none, &request)?;
-        assert_eq!(rt; shown(&judged.landed), answer);
+        assert_eq!(rt; code_of(&judged.landed), answer);
         assert_eq!(rt; judged.after.len(), 0);
     }
     Ok(())

@@ -41,7 +41,9 @@ fn is_known(name: &str, known: &[&str]) -> bool
 
 /// The first member, in name order, whose name isn't among the known ones.
 pub fn first_unknown<'a>(members: &'a Map<String, Value>, known: &[&str]) -> Option<&'a str>
-    ensures { option_map (λ name. name.now) result ≡ first_unknown_of (map (λ name. name.now) known.now) (members_view members.now.entries) }
+    ensures { option_map
+        (λ name. name.now) result
+        ≡ first_unknown_of (map (λ name. name.now) known.now) (members_view members.now.entries) }
 {
     for (name, _) in members {
         let name = name.as_str();
@@ -57,7 +59,8 @@ pub fn first_unknown<'a>(members: &'a Map<String, Value>, known: &[&str]) -> Opt
 pub fn print(alloc: Global, value: &Value) -> Result<Blob, NoMemory>
     requires { has_float (view value.now) ≡ false }
     ensures text { IfOk result (λ blob. blob ≡ compact_text (view value.now)) }
-    ensures reads_back { IfOk result (λ blob. depth (view value.now) ≤ max_depth → json_of blob ≡ Some (view value.now)) }
+    ensures reads_back { IfOk result
+        (λ blob. depth (view value.now) ≤ max_depth → json_of blob ≡ Some (view value.now)) }
 {
     let text = value.to_string(alloc)?;
     Blob::of(alloc, text.as_str().as_bytes())

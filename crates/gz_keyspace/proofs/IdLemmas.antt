@@ -54,17 +54,17 @@ same_sym [] (y ∷ ys) = refl
 same_sym (x ∷ xs) [] = refl
 same_sym (x ∷ xs) (y ∷ ys) = rw (same_number x y, same_sym xs ys) refl
 
--- of the front, and of one more behind it
-front : (a b c d : Bool) → (not (a || b) && (not c && d)) ≡ (not (a || c) && (not b && d))
-front true b c d = refl
-front false true true d = refl
-front false true false d = refl
-front false false true d = refl
-front false false false d = refl
+-- of the first ones, and of one more behind it
+prefix : (a b c d : Bool) → (not (a || b) && (not c && d)) ≡ (not (a || c) && (not b && d))
+prefix true b c d = refl
+prefix false true true d = refl
+prefix false true false d = refl
+prefix false false true d = refl
+prefix false false false d = refl
 
 apart_cons : (ids : List (List ℕ)) (i : List ℕ) (is : List (List ℕ)) → are_apart ids (i ∷ is) ≡ (not (is_in i ids) && are_apart ids is)
 apart_cons [] i is = refl
-apart_cons (id ∷ ids) i is = rw (apart_cons ids i is, same_sym i id) (front (same_key id i) (is_in id is) (is_in i ids) (are_apart ids is))
+apart_cons (id ∷ ids) i is = rw (apart_cons ids i is, same_sym i id) (prefix (same_key id i) (is_in id is) (is_in i ids) (are_apart ids is))
 
 whole : (a : Bool) → (a && true) ≡ a
 whole true = refl

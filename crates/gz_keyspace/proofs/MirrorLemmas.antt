@@ -69,11 +69,11 @@ given_all changes (c ∷ cs) m all mirror among =
     given_all changes cs (applied c m) all
     (applied_one changes m among.0.0 c (c.revision == m.revision + 1) refl all among.0.1 mirror) among.1
 
-pub front_of : (xs ys : List Change) (n : ℕ) → n ≤ length xs → take n (xs ++ ys) ≡ take n xs
-front_of [] ys zero within = refl
-front_of [] ys (suc n) within = absurd (omega (arith, within))
-front_of (x ∷ xs) ys zero within = refl
-front_of (x ∷ xs) ys (suc n) within = ap (λ rest. x ∷ rest) (front_of xs ys n (omega (arith, within)))
+pub prefix_of : (xs ys : List Change) (n : ℕ) → n ≤ length xs → take n (xs ++ ys) ≡ take n xs
+prefix_of [] ys zero within = refl
+prefix_of [] ys (suc n) within = absurd (omega (arith, within))
+prefix_of (x ∷ xs) ys zero within = refl
+prefix_of (x ∷ xs) ys (suc n) within = ap (λ rest. x ∷ rest) (prefix_of xs ys n (omega (arith, within)))
 
 pub all_taken : (xs : List Change) → take (length xs) xs ≡ xs
 all_taken [] = refl
@@ -85,5 +85,5 @@ mirror_law changes all = record {
   whole = sym (at_revision changes (length changes) all ∙ ap keys_after (all_taken changes));
   given = λ m some mirror among. given_all changes some m all mirror among;
   goes_on = λ m more within numbered mirror.
-      mirror ∙ at_revision changes m.revision all ∙ sym (at_revision (changes ++ more) m.revision numbered ∙ ap keys_after (front_of changes more m.revision within));
+      mirror ∙ at_revision changes m.revision all ∙ sym (at_revision (changes ++ more) m.revision numbered ∙ ap keys_after (prefix_of changes more m.revision within));
 }

@@ -12,7 +12,7 @@ use Rattle.std.proofs.lemmas.List.Sorted.{IsNonDecreasingBy-from_default}
 use Rattle.std.proofs.lemmas.Bool.{cases_lt}
 use Rattle.gz_keyspace.specs.declared.table.Held.{Held}
 use Rattle.gz_keyspace.specs.Keys.{same_key, KeyMap, held_at, put, delete}
-use Rattle.gz_keyspace.specs.Mirrors.{IsAbove, IsRising}
+use Rattle.gz_keyspace.specs.Mirrors.{IsAbove, IsAscending}
 use Rattle.gz_keyspace.specs.Rows.{row_at, IsAt, IsGap}
 
 abbrev pub order : List ℕ → List ℕ → Ordering
@@ -51,11 +51,11 @@ above_at a [] i above within = absurd (omega (arith, within))
 above_at a (e ∷ es) zero above within = above.0
 above_at a (e ∷ es) (suc i) above within = above_at a es i above.1 (omega (arith, within))
 
-rising_at : (rows : KeyMap) (i j : ℕ) → IsRising rows → i < j → j < length rows → order (row_at rows i).0 (row_at rows j).0 ≡ Less
-rising_at [] i j rising less within = absurd (omega (arith, within))
-rising_at (e ∷ es) i zero rising less within = absurd (omega (arith, less))
-rising_at (e ∷ es) zero (suc j) rising less within = above_at e.0 es j rising.0 (omega (arith, within))
-rising_at (e ∷ es) (suc i) (suc j) rising less within = rising_at es i j rising.1 (omega (arith, less)) (omega (arith, within))
+ascending_at : (rows : KeyMap) (i j : ℕ) → IsAscending rows → i < j → j < length rows → order (row_at rows i).0 (row_at rows j).0 ≡ Less
+ascending_at [] i j ascending less within = absurd (omega (arith, within))
+ascending_at (e ∷ es) i zero ascending less within = absurd (omega (arith, less))
+ascending_at (e ∷ es) zero (suc j) ascending less within = above_at e.0 es j ascending.0 (omega (arith, within))
+ascending_at (e ∷ es) (suc i) (suc j) ascending less within = ascending_at es i j ascending.1 (omega (arith, less)) (omega (arith, within))
 
 above_put : (a key : List ℕ) (held : Held) (rows : KeyMap) → order a key ≡ Less → IsAbove a rows → IsAbove a (put key held rows)
 above_put a key held [] less above = (less, tt)
@@ -66,15 +66,15 @@ above_put a key held (e ∷ es) less above = beside (order key e.0) (above_put a
     beside Equal rest = above
     beside Greater rest = (above.0, rest)
 
--- a put keeps the keys rising
-pub rising_put : (key : List ℕ) (held : Held) (rows : KeyMap) → IsRising rows → IsRising (put key held rows)
-rising_put key held [] rising = (tt, tt)
-rising_put key held (e ∷ es) rising = beside (order key e.0) refl (rising_put key held es rising.1)
+-- a put keeps the keys ascending
+pub ascending_put : (key : List ℕ) (held : Held) (rows : KeyMap) → IsAscending rows → IsAscending (put key held rows)
+ascending_put key held [] ascending = (tt, tt)
+ascending_put key held (e ∷ es) ascending = beside (order key e.0) refl (ascending_put key held es ascending.1)
   where
-    beside : (o : Ordering) → order key e.0 ≡ o → IsRising (put key held es) → IsRising (match_ordering o ((key, held) ∷ e ∷ es) ((e.0, held) ∷ es) (e ∷ put key held es))
-    beside Less is rest = ((is, above_all key e.0 es is rising.0), rising)
-    beside Equal is rest = rising
-    beside Greater is rest = (above_put e.0 key held es (turned key e.0 Greater is) rising.0, rest)
+    beside : (o : Ordering) → order key e.0 ≡ o → IsAscending (put key held es) → IsAscending (match_ordering o ((key, held) ∷ e ∷ es) ((e.0, held) ∷ es) (e ∷ put key held es))
+    beside Less is rest = ((is, above_all key e.0 es is ascending.0), ascending)
+    beside Equal is rest = ascending
+    beside Greater is rest = (above_put e.0 key held es (turned key e.0 Greater is) ascending.0, rest)
 
 above_filter : (a : List ℕ) (test : List ℕ × Held → Bool) (rows : KeyMap) → IsAbove a rows → IsAbove a (filter test rows)
 above_filter a test [] above = tt
@@ -84,17 +84,17 @@ above_filter a test (e ∷ es) above = by (test e) (above_filter a test es above
     by true rest = (above.0, rest)
     by false rest = rest
 
-rising_filter : (test : List ℕ × Held → Bool) (rows : KeyMap) → IsRising rows → IsRising (filter test rows)
-rising_filter test [] rising = tt
-rising_filter test (e ∷ es) rising = by (test e) (rising_filter test es rising.1)
+ascending_filter : (test : List ℕ × Held → Bool) (rows : KeyMap) → IsAscending rows → IsAscending (filter test rows)
+ascending_filter test [] ascending = tt
+ascending_filter test (e ∷ es) ascending = by (test e) (ascending_filter test es ascending.1)
   where
-    by : (b : Bool) → IsRising (filter test es) → IsRising (cond b (e ∷ filter test es) (filter test es))
-    by true rest = (above_filter e.0 test es rising.0, rest)
+    by : (b : Bool) → IsAscending (filter test es) → IsAscending (cond b (e ∷ filter test es) (filter test es))
+    by true rest = (above_filter e.0 test es ascending.0, rest)
     by false rest = rest
 
 -- so does a delete
-pub rising_delete : (key : List ℕ) (rows : KeyMap) → IsRising rows → IsRising (delete key rows)
-rising_delete key rows rising = rising_filter (λ row. not (same_key key row.0)) rows rising
+pub ascending_delete : (key : List ℕ) (rows : KeyMap) → IsAscending rows → IsAscending (delete key rows)
+ascending_delete key rows ascending = ascending_filter (λ row. not (same_key key row.0)) rows ascending
 
 -- ---- a search
 
@@ -110,25 +110,25 @@ index_rises a b key Equal is less =
     rw at (omega arith)
 index_rises a b key Greater is less = index_le (order a key)
 
-comparisons_rise : (key : List ℕ) (rows : KeyMap) → IsRising rows → IsNonDecreasingBy (λ row. ordering_index (order row.0 key)) rows
-comparisons_rise key rows rising = IsNonDecreasingBy-from_default (λ row. ordering_index (order row.0 key)) rows ([], record { value = []; mod_revision = 0 }) (λ i j le within. elim (cases_lt i j) [
-  | inl less ↦ index_rises (row_at rows i).0 (row_at rows j).0 key (order (row_at rows j).0 key) refl (rising_at rows i j rising less within)
+comparisons_rise : (key : List ℕ) (rows : KeyMap) → IsAscending rows → IsNonDecreasingBy (λ row. ordering_index (order row.0 key)) rows
+comparisons_rise key rows ascending = IsNonDecreasingBy-from_default (λ row. ordering_index (order row.0 key)) rows ([], record { value = []; mod_revision = 0 }) (λ i j le within. elim (cases_lt i j) [
+  | inl less ↦ index_rises (row_at rows i).0 (row_at rows j).0 key (order (row_at rows j).0 key) refl (ascending_at rows i j ascending less within)
   | inr least ↦ (let same : i ≡ j = omega (arith, le, least) in rw same (omega arith))
 ])
 
 -- A binary search ends at the key's row, or at the gap for it.
-pub searched : (key : List ℕ) (rows : KeyMap) → IsRising rows → (r : Result ℕ ℕ) → IsSearchInRange r (length rows) → IsBinarySearchResult (λ row. order row.0 key) rows r
+pub searched : (key : List ℕ) (rows : KeyMap) → IsAscending rows → (r : Result ℕ ℕ) → IsSearchInRange r (length rows) → IsBinarySearchResult (λ row. order row.0 key) rows r
     → record { found : IfOk r (IsAt key rows); absent : IfErr r (IsGap key rows) }
-searched key rows rising (Ok at) within equal = record {
+searched key rows ascending (Ok at) within equal = record {
   found = record { within = within; has_key = same_from_order (row_at rows at).0 key (equal ([], record { value = []; mod_revision = 0 })) };
   absent = tt;
 }
-searched key rows rising (Err at) within parted = record {
+searched key rows ascending (Err at) within parted = record {
   found = tt;
   absent = record {
     within = within;
-    less = λ i less. (parted (comparisons_rise key rows rising)).0 i ([], record { value = []; mod_revision = 0 }) (omega arith) less;
-    greater = λ i least below. (parted (comparisons_rise key rows rising)).1 i ([], record { value = []; mod_revision = 0 }) least below;
+    less = λ i less. (parted (comparisons_rise key rows ascending)).0 i ([], record { value = []; mod_revision = 0 }) (omega arith) less;
+    greater = λ i least below. (parted (comparisons_rise key rows ascending)).1 i ([], record { value = []; mod_revision = 0 }) least below;
   };
 }
 
@@ -138,16 +138,16 @@ below_key : (e : List ℕ × Held) (es : KeyMap) (key : List ℕ) (i : ℕ) → 
 below_key e es key i above within has_key =
     turned e.0 key Less (subst (λ k. order e.0 k ≡ Less) has_key (above_at e.0 es i above within))
 
-pub put_found : (key : List ℕ) (held : Held) (rows : KeyMap) (i : ℕ) → IsRising rows → i < length rows → (row_at rows i).0 ≡ key → set rows i (key, held) ≡ put key held rows
-put_found key held [] i rising within has_key = absurd (omega (arith, within))
-put_found key held (e ∷ es) zero rising within has_key =
+pub put_found : (key : List ℕ) (held : Held) (rows : KeyMap) (i : ℕ) → IsAscending rows → i < length rows → (row_at rows i).0 ≡ key → set rows i (key, held) ≡ put key held rows
+put_found key held [] i ascending within has_key = absurd (omega (arith, within))
+put_found key held (e ∷ es) zero ascending within has_key =
     let is : order key e.0 ≡ Equal = subst (λ k. order key k ≡ Equal) (sym has_key) (itself key) in
     ap (λ k. (k, held) ∷ es) (sym has_key)
     ∙ sym (ap (λ o. match_ordering o ((key, held) ∷ e ∷ es) ((e.0, held) ∷ es) (e ∷ put key held es)) is)
-put_found key held (e ∷ es) (suc i) rising within has_key =
+put_found key held (e ∷ es) (suc i) ascending within has_key =
     let there : i < length es = omega (arith, within) in
-    ap (λ rows. e ∷ rows) (put_found key held es i rising.1 there has_key)
-    ∙ sym (ap (λ o. match_ordering o ((key, held) ∷ e ∷ es) ((e.0, held) ∷ es) (e ∷ put key held es)) (below_key e es key i rising.0 there has_key))
+    ap (λ rows. e ∷ rows) (put_found key held es i ascending.1 there has_key)
+    ∙ sym (ap (λ o. match_ordering o ((key, held) ∷ e ∷ es) ((e.0, held) ∷ es) (e ∷ put key held es)) (below_key e es key i ascending.0 there has_key))
 
 put_between : (key : List ℕ) (held : Held) (rows : KeyMap) (i : ℕ) → i ≤ length rows
     → ((j : ℕ) → j < i → order (row_at rows j).0 key ≡ Less) → (i < length rows → order (row_at rows i).0 key ≡ Greater)
@@ -191,16 +191,16 @@ delete_none key (e ∷ es) none =
 pub delete_in_gap : (key : List ℕ) (rows : KeyMap) (i : ℕ) → IsGap key rows i → delete key rows ≡ rows
 delete_in_gap key rows i gap = delete_none key rows (none_in_gap key rows i gap)
 
-pub delete_found : (key : List ℕ) (rows : KeyMap) (i : ℕ) → IsRising rows → i < length rows → (row_at rows i).0 ≡ key → remove rows i ≡ delete key rows
-delete_found key [] i rising within has_key = absurd (omega (arith, within))
-delete_found key (e ∷ es) zero rising within has_key =
+pub delete_found : (key : List ℕ) (rows : KeyMap) (i : ℕ) → IsAscending rows → i < length rows → (row_at rows i).0 ≡ key → remove rows i ≡ delete key rows
+delete_found key [] i ascending within has_key = absurd (omega (arith, within))
+delete_found key (e ∷ es) zero ascending within has_key =
     let same : same_key key e.0 ≡ true = apart key e.0 Equal (subst (λ k. order key k ≡ Equal) (sym has_key) (itself key)) in
-    let above : IsAbove key es = subst (λ k. IsAbove k es) has_key rising.0 in
+    let above : IsAbove key es = subst (λ k. IsAbove k es) has_key ascending.0 in
     sym (ap (λ b. cond (not b) (e ∷ delete key es) (delete key es)) same ∙ delete_none key es (none_above key es above))
-delete_found key (e ∷ es) (suc i) rising within has_key =
+delete_found key (e ∷ es) (suc i) ascending within has_key =
     let there : i < length es = omega (arith, within) in
-    ap (λ rows. e ∷ rows) (delete_found key es i rising.1 there has_key)
-    ∙ sym (ap (λ b. cond (not b) (e ∷ delete key es) (delete key es)) (apart key e.0 Greater (below_key e es key i rising.0 there has_key)))
+    ap (λ rows. e ∷ rows) (delete_found key es i ascending.1 there has_key)
+    ∙ sym (ap (λ b. cond (not b) (e ∷ delete key es) (delete key es)) (apart key e.0 Greater (below_key e es key i ascending.0 there has_key)))
 
 pub held_none : (key : List ℕ) (rows : KeyMap) → HasNone key rows → held_at key rows ≡ None
 held_none key [] none = refl
@@ -210,11 +210,11 @@ held_none key (e ∷ es) none =
 pub held_in_gap : (key : List ℕ) (rows : KeyMap) (i : ℕ) → IsGap key rows i → None ≡ held_at key rows
 held_in_gap key rows i gap = sym (held_none key rows (none_in_gap key rows i gap))
 
-pub held_found : (key : List ℕ) (rows : KeyMap) (i : ℕ) → IsRising rows → i < length rows → (row_at rows i).0 ≡ key → Some (row_at rows i).1 ≡ held_at key rows
-held_found key [] i rising within has_key = absurd (omega (arith, within))
-held_found key (e ∷ es) zero rising within has_key =
+pub held_found : (key : List ℕ) (rows : KeyMap) (i : ℕ) → IsAscending rows → i < length rows → (row_at rows i).0 ≡ key → Some (row_at rows i).1 ≡ held_at key rows
+held_found key [] i ascending within has_key = absurd (omega (arith, within))
+held_found key (e ∷ es) zero ascending within has_key =
     sym (ap (λ b. cond b (Some e.1) (held_at key es)) (apart key e.0 Equal (subst (λ k. order key k ≡ Equal) (sym has_key) (itself key))))
-held_found key (e ∷ es) (suc i) rising within has_key =
+held_found key (e ∷ es) (suc i) ascending within has_key =
     let there : i < length es = omega (arith, within) in
-    held_found key es i rising.1 there has_key
-    ∙ sym (ap (λ b. cond b (Some e.1) (held_at key es)) (apart key e.0 Greater (below_key e es key i rising.0 there has_key)))
+    held_found key es i ascending.1 there has_key
+    ∙ sym (ap (λ b. cond b (Some e.1) (held_at key es)) (apart key e.0 Greater (below_key e es key i ascending.0 there has_key)))

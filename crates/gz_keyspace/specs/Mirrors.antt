@@ -20,9 +20,9 @@ IsAbove key [] = ⊤
 IsAbove key (row ∷ rows) = (slice_cmp nat_cmp key row.0 ≡ Less) × IsAbove key rows
 
 -- the keys rise
-abbrev pub IsRising : KeyMap → Type 0
-IsRising [] = ⊤
-IsRising (row ∷ rows) = IsAbove row.0 rows × IsRising rows
+abbrev pub IsAscending : KeyMap → Type 0
+IsAscending [] = ⊤
+IsAscending (row ∷ rows) = IsAbove row.0 rows × IsAscending rows
 
 -- what a mirror answers to a change: true where it is the next one, false where the mirror has it already
 abbrev pub apply_answer : Change → Mirrored → Result Bool KeyError

@@ -3,7 +3,7 @@ use Rattle.std.specs.Prelude.{◌≡◌, Result, Ok, Err, ⊤}
 use Rattle.gz_keyspace.specs.declared.error.KeyError.{KeyError}
 use Rattle.gz_keyspace.specs.declared.error.KeyError.TheVariants.{NoMemory}
 
--- a refusal is the one that is to come, or the want of memory
+-- a refusal is the one that is to come, or out of memory
 abbrev pub Fails : {Y : Type 0} → KeyError → Result Y KeyError → Type 0
 Fails NoMemory answer = ⊤
 Fails e answer = answer ≡ Err e

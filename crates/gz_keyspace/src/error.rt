@@ -3,6 +3,8 @@ ghost use Rattle.std.specs.Prelude.{◌≡◌};
 
 use gz_label::{Name, NoMemory};
 use std::alloc::{AllocError, AllocFailed};
+use std::error::Error;
+use std::fmt;
 
 /// Why a call on a space of keys is refused.
 #[derive(Debug, Drop)]
@@ -18,6 +20,23 @@ pub enum KeyError {
     /// Memory ran out.
     NoMemory,
 }
+
+impl fmt::Display for KeyError {
+    fn fmt<W: fmt::Write>(&self, f: &mut fmt::Formatter<W>) -> fmt::Result {
+        match self {
+            KeyError::CompareFailed { key, mod_revision } => write!(
+                f,
+                "{key} has mod revision {mod_revision}"
+            ),
+            KeyError::KeysEnd => write!(f, "the revision is at its end"),
+            KeyError::NoLease => write!(f, "no such lease is live"),
+            KeyError::Skipped { have, got } => write!(f, "revision {got} comes behind {have}"),
+            KeyError::NoMemory => write!(f, "out of memory"),
+        }
+    }
+}
+
+impl Error for KeyError {}
 
 impl From<NoMemory> for KeyError {
     ghost use Rattle.std.specs.Prelude.{◌≡◌};

@@ -224,7 +224,9 @@ fn read_words(
     zone: &[u8],
     limit: &[u8],
 ) -> Result<Option<Joined>, NoMemory>
-    ensures { IfOk result (λ joined. joined ≡ joined_with id.now (is_consumer kind.now) zone.now (number_of limit.now)) }
+    ensures { IfOk result
+        (λ joined. joined
+        ≡ joined_with id.now (is_consumer kind.now) zone.now (number_of limit.now)) }
 {
     let Some(consumer) = is_consumer(kind) else {
         return Ok(None);

@@ -42,9 +42,15 @@ impl Tables {
     fn commit(&mut self, writes: Writes) -> Result<u64, KeyError>
         ensures answer { Gives result (next_revision self.old.changes.items) }
         ensures revision { IfOk result (λ revision. revision ≡ revision_of self.new.changes.items) }
-        ensures changes { OnOk result (self.new.changes.items ≡ with_change writes self.old.changes.items) }
-        ensures keys { OnOk result ((key : List ℕ) → got same_key self.new.keys key ≡ puts key (prepared_of (revision_of self.new.changes.items) writes) (got same_key self.old.keys key)) }
-        ensures leases { OnOk result (self.new.leases.entries ≡ without_written writes self.old.leases.entries) }
+        ensures changes { OnOk result
+            (self.new.changes.items ≡ with_change writes self.old.changes.items) }
+        ensures keys { OnOk result
+            ((key : List ℕ) →
+            got same_key self.new.keys key
+            ≡ puts key (prepared_of (revision_of self.new.changes.items) writes)
+            (got same_key self.old.keys key)) }
+        ensures leases { OnOk result
+            (self.new.leases.entries ≡ without_written writes self.old.leases.entries) }
         ensures room { spare self.old.leases ≤ spare self.new.leases }
         ensures same_changes { OnErr result (self.new.changes.items ≡ self.old.changes.items) }
         ensures same_keys { OnErr result (IsUnchanged self.old.keys self.new.keys) }
@@ -105,7 +111,9 @@ impl KeySpace {
     /// The key's value and the revision of the change that put it; none exactly where the key is absent. It
     /// takes no memory.
     pub fn get(&self, key: &Name) -> Option<(&Blob, u64)>
-        ensures { option_map (λ found. record { value = found.0.now; mod_revision = found.1 }) result ≡ held_at key.now (keys_after self.now.changes) }
+        ensures { option_map
+            (λ found. record { value = found.0.now; mod_revision = found.1 }) result
+            ≡ held_at key.now (keys_after self.now.changes) }
     {
         match self.tables.keys.get(key) {
             None => None,
@@ -205,7 +213,9 @@ impl KeySpace {
 
     /// The changes of the revisions above this one, in order. It costs no more than those.
     pub fn since(&self, after: u64) -> Result<Changes, NoMemory>
-        ensures value { IfOk result (λ changes. changes ≡ filter (λ change. nat_lt after change.revision) self.now.changes) }
+        ensures value { IfOk result
+            (λ changes. changes ≡ filter
+            (λ change. nat_lt after change.revision) self.now.changes) }
         ensures numbered { IsNumbered self.now.changes }
     {
         let later = behind(self.tables.changes.as_slice(), after);

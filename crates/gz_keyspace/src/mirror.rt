@@ -2,7 +2,7 @@
 ghost use Rattle.std.specs.Prelude.{◌≡◌, [], OnOk, OnErr, IfOk, option_map, slice_get};
 ghost use Rattle.gz_keyspace.specs.Keys.{held_at, keys_after};
 ghost use Rattle.gz_keyspace.specs.Space.{revision_of};
-ghost use Rattle.gz_keyspace.specs.Mirrors.{Mirrored, IsRising, apply_answer, applied};
+ghost use Rattle.gz_keyspace.specs.Mirrors.{Mirrored, IsAscending, apply_answer, applied};
 ghost use Rattle.gz_keyspace.specs.Outcomes.{Gives};
 
 use crate::rows::{find, put_rows};
@@ -21,13 +21,13 @@ pub struct Mirror {
 }
 
 impl Model for Mirror {
-    ghost use Rattle.gz_keyspace.specs.Mirrors.{Mirrored, IsRising};
+    ghost use Rattle.gz_keyspace.specs.Mirrors.{Mirrored, IsAscending};
 
     ghost Value = { Mirrored };
 
     ghost view = { λ a. record { revision = a.revision; keys = a.rows.items } };
 
-    ghost invariant = { λ a. IsRising a.rows.items };
+    ghost invariant = { λ a. IsAscending a.rows.items };
 }
 
 impl Mirror {
@@ -43,7 +43,12 @@ impl Mirror {
 
     /// A copy of the key space's keys, at its revision.
     pub fn of(keys: &KeySpace) -> Result<Mirror, NoMemory>
-        ensures { IfOk result (λ mirror. mirror ≡ record { revision = revision_of keys.now.changes; keys = keys_after keys.now.changes }) }
+        ensures { IfOk result
+            (λ mirror. mirror
+            ≡ record {
+              revision = revision_of keys.now.changes;
+              keys = keys_after keys.now.changes;
+            }) }
     {
         Ok(Mirror {
             revision: keys.revision(),
@@ -61,7 +66,9 @@ impl Mirror {
     /// The key's value and the revision of the change that put it; none exactly where the key is absent. It
     /// takes no memory.
     pub fn get(&self, key: &Name) -> Option<(&Blob, u64)>
-        ensures { option_map (λ found. record { value = found.0.now; mod_revision = found.1 }) result ≡ held_at key.now self.now.keys }
+        ensures { option_map
+            (λ found. record { value = found.0.now; mod_revision = found.1 }) result
+            ≡ held_at key.now self.now.keys }
     {
         match find(self.rows.as_slice(), key) {
             None => None,
@@ -72,8 +79,10 @@ impl Mirror {
     /// The key at this place, from 0, in the order of the keys, with its value and the revision of the change that
     /// put it; none exactly past their end. It takes no memory.
     pub fn nth(&self, place: usize) -> Option<(&Name, &Blob, u64)>
-        ensures value { option_map (λ found. (found.0.now, record { value = found.1.now; mod_revision = found.2 })) result ≡ slice_get self.now.keys place }
-        ensures order { IsRising self.now.keys }
+        ensures value { option_map
+            (λ found. (found.0.now, record { value = found.1.now; mod_revision = found.2 })) result
+            ≡ slice_get self.now.keys place }
+        ensures order { IsAscending self.now.keys }
     {
         match self.rows.get(place) {
             None => None,

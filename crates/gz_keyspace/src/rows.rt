@@ -6,7 +6,7 @@ ghost use Rattle.std.specs.VecDeque.{deque_len};
 ghost use Rattle.gz_keyspace.specs.Keys.{put, delete, held_at, same_key};
 ghost use Rattle.std.specs.List.Sorted.{IsPermutation, IsSortedBy};
 ghost use Rattle.indexmap.specs.IndexMap.{IsUnique};
-ghost use Rattle.gz_keyspace.specs.Mirrors.{IsRising};
+ghost use Rattle.gz_keyspace.specs.Mirrors.{IsAscending};
 ghost use Rattle.gz_keyspace.specs.Rows.{IsAt, IsGap, after_prepared, is_less};
 
 use crate::table::{Held, Prepared};
@@ -18,7 +18,7 @@ use std::collections::VecDeque;
 
 // Where the key's row is, or where it would go.
 fn place_of(rows: &[(Name, Held)], key: &Name) -> Result<usize, usize>
-    requires { IsRising rows.now }
+    requires { IsAscending rows.now }
     ensures found { IfOk result (IsAt key.now rows.now) }
     ensures absent { IfErr result (IsGap key.now rows.now) }
 {
@@ -30,7 +30,7 @@ fn place_of(rows: &[(Name, Held)], key: &Name) -> Result<usize, usize>
 
 /// What the key has.
 pub fn find<'a>(rows: &'a [(Name, Held)], key: &Name) -> Option<&'a Held>
-    requires { IsRising rows.now }
+    requires { IsAscending rows.now }
     ensures { option_map (λ held. held.now) result ≡ held_at key.now rows.now }
 {
     match place_of(rows, key) {
@@ -41,10 +41,10 @@ pub fn find<'a>(rows: &'a [(Name, Held)], key: &Name) -> Option<&'a Held>
 
 // Gives the key this. It takes no memory.
 fn put_row(rows: &mut Vec<(Name, Held)>, key: Name, held: Held)
-    requires ordered { IsRising rows.old.items }
+    requires ordered { IsAscending rows.old.items }
     requires room { vec_len rows.old < vec_capacity rows.old }
     ensures value { rows.new.items ≡ put key held rows.old.items }
-    ensures ordered { IsRising rows.new.items }
+    ensures ordered { IsAscending rows.new.items }
     ensures len { vec_len rows.new ≤ vec_len rows.old + 1 }
     ensures capacity { vec_capacity rows.old ≤ vec_capacity rows.new }
 {
@@ -58,9 +58,9 @@ fn put_row(rows: &mut Vec<(Name, Held)>, key: Name, held: Held)
 
 // Takes the key away.
 fn delete_row(rows: &mut Vec<(Name, Held)>, key: &Name)
-    requires { IsRising rows.old.items }
+    requires { IsAscending rows.old.items }
     ensures value { rows.new.items ≡ delete key.now rows.old.items }
-    ensures ordered { IsRising rows.new.items }
+    ensures ordered { IsAscending rows.new.items }
     ensures len { vec_len rows.new ≤ vec_len rows.old }
     ensures capacity { vec_capacity rows.old ≤ vec_capacity rows.new }
 {
@@ -71,10 +71,10 @@ fn delete_row(rows: &mut Vec<(Name, Held)>, key: &Name)
 
 /// Gives the keys what was prepared for them. It takes no memory.
 pub fn put_rows(rows: &mut Vec<(Name, Held)>, mut prepared: VecDeque<Prepared>)
-    requires ordered { IsRising rows.old.items }
+    requires ordered { IsAscending rows.old.items }
     requires room { vec_len rows.old + deque_len prepared ≤ vec_capacity rows.old }
     ensures value { rows.new.items ≡ after_prepared prepared.items rows.old.items }
-    ensures ordered { IsRising rows.new.items }
+    ensures ordered { IsAscending rows.new.items }
 {
     while let Some(Prepared { key, held }) = prepared.pop_front() {
         match held {

@@ -73,7 +73,8 @@ pub fn put_all(
     mut prepared: VecDeque<Prepared>,
 )
     requires { deque_len prepared ≤ spare table.old }
-    ensures value { (key : List ℕ) → got same_key table.new key ≡ puts key prepared.items (got same_key table.old key) }
+    ensures value { (key : List ℕ) →
+        got same_key table.new key ≡ puts key prepared.items (got same_key table.old key) }
     ensures leases { leases.new.entries ≡ releases prepared.items leases.old.entries }
     ensures room { spare leases.old ≤ spare leases.new }
 {

@@ -8,8 +8,8 @@ use Rattle.std.proofs.Math.Seq.{take-append_seam, drop-append-add}
 use Rattle.std.specs.List.{list_all, onto_first}
 use Rattle.gz_label.specs.declared.label.Label.{Label}
 use Rattle.gz_label.specs.Items.{place_of, parts_of, items_of, first_bad}
-use Rattle.gz_label.specs.Labels.{is_name_byte, is_value_byte, is_label_name, is_label_value, is_label, label_cmp, comes_before, are_rising, is_label_set, put_label, put_labels, spelling, print_of, print_more, label_of, label_in, is_label_item, labels_in, set_of}
-use Rattle.gz_label.proofs.Sets.{both_left, both_right, label_total, rising_of_set, valid_of_set, limited_set, less}
+use Rattle.gz_label.specs.Labels.{is_name_byte, is_value_byte, is_label_name, is_label_value, is_label, label_cmp, comes_before, are_ascending, is_label_set, put_label, put_labels, spelling, print_of, print_more, label_of, label_in, is_label_item, labels_in, set_of}
+use Rattle.gz_label.proofs.Sets.{both_left, both_right, label_total, ascending_of_set, valid_of_set, limited_set, less}
 use Rattle.gz_label.proofs.Printed.{print_first}
 
 -- ---- bytes
@@ -111,30 +111,30 @@ labels_back [] all = refl
 labels_back (l ∷ ls) all =
     rw (label_in_spelling l (both_left (is_label l) (list_all is_label ls) all), labels_back ls (both_right (is_label l) (list_all is_label ls) all)) refl
 
--- ---- rising labels
+-- ---- ascending labels
 
-before_all : (xs : List Label) (a l : Label) (ls : List Label) → comes_before a (xs ++ l ∷ ls) ≡ true → are_rising (xs ++ l ∷ ls) ≡ true → label_cmp a l ≡ Less
+before_all : (xs : List Label) (a l : Label) (ls : List Label) → comes_before a (xs ++ l ∷ ls) ≡ true → are_ascending (xs ++ l ∷ ls) ≡ true → label_cmp a l ≡ Less
 before_all [] a l ls first up = less (label_cmp a l) first
 before_all (x ∷ xs) a l ls first up =
-    let next : label_cmp x l ≡ Less = before_all xs x l ls (both_left (comes_before x (xs ++ l ∷ ls)) (are_rising (xs ++ l ∷ ls)) up) (both_right (comes_before x (xs ++ l ∷ ls)) (are_rising (xs ++ l ∷ ls)) up) in
+    let next : label_cmp x l ≡ Less = before_all xs x l ls (both_left (comes_before x (xs ++ l ∷ ls)) (are_ascending (xs ++ l ∷ ls)) up) (both_right (comes_before x (xs ++ l ∷ ls)) (are_ascending (xs ++ l ∷ ls)) up) in
     label_total.trans a x l (less (label_cmp a x) first) next
 
-put_last : (xs : List Label) (l : Label) (ls : List Label) → are_rising (xs ++ l ∷ ls) ≡ true → put_label l xs ≡ xs ++ l ∷ []
+put_last : (xs : List Label) (l : Label) (ls : List Label) → are_ascending (xs ++ l ∷ ls) ≡ true → put_label l xs ≡ xs ++ l ∷ []
 put_last [] l ls up = refl
 put_last (x ∷ xs) l ls up =
-    let first : comes_before x (xs ++ l ∷ ls) ≡ true = both_left (comes_before x (xs ++ l ∷ ls)) (are_rising (xs ++ l ∷ ls)) up in
-    let rest : are_rising (xs ++ l ∷ ls) ≡ true = both_right (comes_before x (xs ++ l ∷ ls)) (are_rising (xs ++ l ∷ ls)) up in
+    let first : comes_before x (xs ++ l ∷ ls) ≡ true = both_left (comes_before x (xs ++ l ∷ ls)) (are_ascending (xs ++ l ∷ ls)) up in
+    let rest : are_ascending (xs ++ l ∷ ls) ≡ true = both_right (comes_before x (xs ++ l ∷ ls)) (are_ascending (xs ++ l ∷ ls)) up in
     let after : label_cmp l x ≡ Greater = rw (label_total.antisymm l x, before_all xs x l ls first rest) refl in
     rw after (ap (λ (ms : List Label). x ∷ ms) (put_last xs l ls rest))
 
-put_rising : (ls xs : List Label) → are_rising (xs ++ ls) ≡ true → put_labels ls xs ≡ xs ++ ls
-put_rising [] xs up = sym (append-nil xs)
-put_rising (l ∷ ls) xs up =
+put_ascending : (ls xs : List Label) → are_ascending (xs ++ ls) ≡ true → put_labels ls xs ≡ xs ++ ls
+put_ascending [] xs up = sym (append-nil xs)
+put_ascending (l ∷ ls) xs up =
     let same : (xs ++ l ∷ []) ++ ls ≡ xs ++ l ∷ ls = append_assoc xs (l ∷ []) ls in
-    rw (put_last xs l ls up) (put_rising ls (xs ++ l ∷ []) (rw same up) ∙ same)
+    rw (put_last xs l ls up) (put_ascending ls (xs ++ l ∷ []) (rw same up) ∙ same)
 
 -- reading what a set is printed as gives the set
 pub read_back : (set : List Label) → is_label_set set ≡ true → set_of (print_of set) ≡ Ok set
 read_back set is =
     let valid : list_all is_label set ≡ true = valid_of_set set is in
-    rw (items_printed set valid, none_bad set 0 valid, labels_back set valid, put_rising set [] (rising_of_set set is)) (limited_set set is)
+    rw (items_printed set valid, none_bad set 0 valid, labels_back set valid, put_ascending set [] (ascending_of_set set is)) (limited_set set is)

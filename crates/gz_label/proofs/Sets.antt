@@ -1,4 +1,4 @@
--- Rising lists of labels.
+-- Ascending lists of labels.
 use Rattle.std.proofs.Common.{◌≡◌, ℕ, suc, ◌+◌, ◌<◌, ◌≤◌, ◌&&◌, List, [], ◌∷◌, ◌++◌, length, take, drop, filter, refl, ap, sym, ◌∙◌, cond, get_or, Bool, true, false, is_lt, nat_lt, nat_le, Some, None, option_to_list, Ok, arith, Ordering, Less, Equal, Greater}
 use Rattle.std.proofs.lemmas.Grind.{common_steps}
 use Rattle.std.specs.List.{list_all, insert}
@@ -6,7 +6,7 @@ use Rattle.std.specs.Ordering.{match_ordering}
 use Rattle.std.specs.Cmp.{IsTotalOrder}
 use Rattle.std.proofs.lemmas.Cmp.{then_total, on_total, nat_list_cmp_total}
 use Rattle.gz_label.specs.declared.label.Label.{Label}
-use Rattle.gz_label.specs.Labels.{is_label, is_label_name, is_label_value, label_cmp, comes_before, are_rising, is_label_set, put_label, put_labels, with_label, label_of, label_in, labels_in}
+use Rattle.gz_label.specs.Labels.{is_label, is_label_name, is_label_value, label_cmp, comes_before, are_ascending, is_label_set, put_label, put_labels, with_label, label_of, label_in, labels_in}
 use Rattle.gz_label.specs.Items.{max_labels, limited, has_byte, before_byte, after_byte, place_of}
 use Rattle.gz_label.specs.Outcomes.{Fails}
 use Rattle.gz_label.specs.declared.name.LabelError.{LabelError}
@@ -41,18 +41,18 @@ before_put : (m l : Label) (ms : List Label) → label_cmp m l ≡ Less → come
 before_put m l [] below first = rw below refl
 before_put m l (k ∷ ms) below first = before_placed (label_cmp l k) m l k ms (put_label l ms) below first
 
-rising_placed : (o : Ordering) (l m : Label) (ms : List Label) → label_cmp l m ≡ o → comes_before m ms ≡ true → are_rising ms ≡ true → are_rising (put_label l ms) ≡ true
-    → are_rising (match_ordering o (l ∷ m ∷ ms) (m ∷ ms) (m ∷ put_label l ms)) ≡ true
-rising_placed Less l m ms is first rest more = rw (is, first, rest) refl
-rising_placed Equal l m ms is first rest more = rw (first, rest) refl
-rising_placed Greater l m ms is first rest more = rw (before_put m l ms (turned l m is) first, more) refl
+ascending_placed : (o : Ordering) (l m : Label) (ms : List Label) → label_cmp l m ≡ o → comes_before m ms ≡ true → are_ascending ms ≡ true → are_ascending (put_label l ms) ≡ true
+    → are_ascending (match_ordering o (l ∷ m ∷ ms) (m ∷ ms) (m ∷ put_label l ms)) ≡ true
+ascending_placed Less l m ms is first rest more = rw (is, first, rest) refl
+ascending_placed Equal l m ms is first rest more = rw (first, rest) refl
+ascending_placed Greater l m ms is first rest more = rw (before_put m l ms (turned l m is) first, more) refl
 
--- a rising list stays one
-pub rising_put : (l : Label) (ms : List Label) → are_rising ms ≡ true → are_rising (put_label l ms) ≡ true
-rising_put l [] up = refl
-rising_put l (m ∷ ms) up =
-    let rest : are_rising ms ≡ true = both_right (comes_before m ms) _ up in
-    rising_placed (label_cmp l m) l m ms refl (both_left (comes_before m ms) _ up) rest (rising_put l ms rest)
+-- an ascending list stays one
+pub ascending_put : (l : Label) (ms : List Label) → are_ascending ms ≡ true → are_ascending (put_label l ms) ≡ true
+ascending_put l [] up = refl
+ascending_put l (m ∷ ms) up =
+    let rest : are_ascending ms ≡ true = both_right (comes_before m ms) _ up in
+    ascending_placed (label_cmp l m) l m ms refl (both_left (comes_before m ms) _ up) rest (ascending_put l ms rest)
 
 all_placed : (o : Ordering) (p : Label → Bool) (l m : Label) (ms rest : List Label) → p l ≡ true → p m ≡ true → list_all p ms ≡ true → list_all p rest ≡ true
     → list_all p (match_ordering o (l ∷ m ∷ ms) (m ∷ ms) (m ∷ rest)) ≡ true
@@ -70,25 +70,25 @@ all_put p l (m ∷ ms) new all =
 fits : (n : ℕ) → n ≤ 64 → nat_le n 64 ≡ true
 fits n few = grind (arith, common_steps)
 
-pub rising_of_set : (ms : List Label) → is_label_set ms ≡ true → are_rising ms ≡ true
+pub ascending_of_set : (ms : List Label) → is_label_set ms ≡ true → are_ascending ms ≡ true
 unfolding is_label_set
-rising_of_set ms set = both_left (are_rising ms) (list_all is_label ms) (both_left (are_rising ms && list_all is_label ms) (nat_le (length ms) max_labels) set)
+ascending_of_set ms set = both_left (are_ascending ms) (list_all is_label ms) (both_left (are_ascending ms && list_all is_label ms) (nat_le (length ms) max_labels) set)
 
 pub valid_of_set : (ms : List Label) → is_label_set ms ≡ true → list_all is_label ms ≡ true
 unfolding is_label_set
-valid_of_set ms set = both_right (are_rising ms) (list_all is_label ms) (both_left (are_rising ms && list_all is_label ms) (nat_le (length ms) max_labels) set)
+valid_of_set ms set = both_right (are_ascending ms) (list_all is_label ms) (both_left (are_ascending ms && list_all is_label ms) (nat_le (length ms) max_labels) set)
 
 pub few_of_set : (ms : List Label) → is_label_set ms ≡ true → length ms ≤ 64
 unfolding is_label_set
 few_of_set ms set =
-    let few : nat_le (length ms) 64 ≡ true = both_right (are_rising ms && list_all is_label ms) (nat_le (length ms) max_labels) set in
+    let few : nat_le (length ms) 64 ≡ true = both_right (are_ascending ms && list_all is_label ms) (nat_le (length ms) max_labels) set in
     grind (arith, common_steps)
 
 -- a set with one more label that fits is a set
 pub is_label_set-put : (l : Label) (ms : List Label) → is_label l ≡ true → is_label_set ms ≡ true → length (put_label l ms) ≤ 64 → is_label_set (put_label l ms) ≡ true
 unfolding is_label_set
 is_label_set-put l ms valid set few =
-    rw (rising_put l ms (rising_of_set ms set), all_put is_label l ms valid (valid_of_set ms set), fits (length (put_label l ms)) few) refl
+    rw (ascending_put l ms (ascending_of_set ms set), all_put is_label l ms valid (valid_of_set ms set), fits (length (put_label l ms)) few) refl
 
 -- the same, where the label was put at a place
 pub is_label_set-insert : (i : ℕ) (l : Label) (ms : List Label) → is_label l ≡ true → is_label_set ms ≡ true → put_label l ms ≡ insert ms i l → length (insert ms i l) ≤ 64 → is_label_set (insert ms i l) ≡ true
@@ -114,9 +114,9 @@ before_kept : (kept : Bool) (l m : Label) (rest : List Label) → is_lt (label_c
 before_kept true l m rest first more = first
 before_kept false l m rest first more = more
 
-rising_kept : (kept : Bool) (m : Label) (rest : List Label) → comes_before m rest ≡ true → are_rising rest ≡ true → are_rising (cond kept (m ∷ rest) rest) ≡ true
-rising_kept true m rest first more = rw (first, more) refl
-rising_kept false m rest first more = more
+ascending_kept : (kept : Bool) (m : Label) (rest : List Label) → comes_before m rest ≡ true → are_ascending rest ≡ true → are_ascending (cond kept (m ∷ rest) rest) ≡ true
+ascending_kept true m rest first more = rw (first, more) refl
+ascending_kept false m rest first more = more
 
 all_kept_step : (kept : Bool) (q : Label → Bool) (m : Label) (rest : List Label) → q m ≡ true → list_all q rest ≡ true → list_all q (cond kept (m ∷ rest) rest) ≡ true
 all_kept_step true q m rest first more = rw (first, more) refl
@@ -126,18 +126,18 @@ fewer_step : (kept : Bool) (m : Label) (rest : List Label) (n : ℕ) → length 
 fewer_step true m rest n few = omega arith
 fewer_step false m rest n few = omega arith
 
-before_filtered : (p : Label → Bool) (l : Label) (ms : List Label) → comes_before l ms ≡ true → are_rising ms ≡ true → comes_before l (filter p ms) ≡ true
+before_filtered : (p : Label → Bool) (l : Label) (ms : List Label) → comes_before l ms ≡ true → are_ascending ms ≡ true → comes_before l (filter p ms) ≡ true
 before_filtered p l [] first up = refl
 before_filtered p l (m ∷ ms) first up =
-    let rest : are_rising ms ≡ true = both_right (comes_before m ms) (are_rising ms) up in
-    before_kept (p m) l m (filter p ms) first (before_filtered p l ms (before_next l m ms first (both_left (comes_before m ms) (are_rising ms) up)) rest)
+    let rest : are_ascending ms ≡ true = both_right (comes_before m ms) (are_ascending ms) up in
+    before_kept (p m) l m (filter p ms) first (before_filtered p l ms (before_next l m ms first (both_left (comes_before m ms) (are_ascending ms) up)) rest)
 
-rising_filtered : (p : Label → Bool) (ms : List Label) → are_rising ms ≡ true → are_rising (filter p ms) ≡ true
-rising_filtered p [] up = refl
-rising_filtered p (m ∷ ms) up =
-    let first : comes_before m ms ≡ true = both_left (comes_before m ms) (are_rising ms) up in
-    let rest : are_rising ms ≡ true = both_right (comes_before m ms) (are_rising ms) up in
-    rising_kept (p m) m (filter p ms) (before_filtered p m ms first rest) (rising_filtered p ms rest)
+ascending_filtered : (p : Label → Bool) (ms : List Label) → are_ascending ms ≡ true → are_ascending (filter p ms) ≡ true
+ascending_filtered p [] up = refl
+ascending_filtered p (m ∷ ms) up =
+    let first : comes_before m ms ≡ true = both_left (comes_before m ms) (are_ascending ms) up in
+    let rest : are_ascending ms ≡ true = both_right (comes_before m ms) (are_ascending ms) up in
+    ascending_kept (p m) m (filter p ms) (before_filtered p m ms first rest) (ascending_filtered p ms rest)
 
 all_kept : (p q : Label → Bool) (ms : List Label) → list_all q ms ≡ true → list_all q (filter p ms) ≡ true
 all_kept p q [] all = refl
@@ -153,7 +153,7 @@ unfolding is_label_set
 is_label_set-filter p ms set =
     let few : length ms ≤ 64 = few_of_set ms set in
     let less : length (filter p ms) ≤ length ms = fewer p ms in
-    rw (rising_filtered p ms (rising_of_set ms set), all_kept p is_label ms (valid_of_set ms set), fits (length (filter p ms)) (omega arith)) refl
+    rw (ascending_filtered p ms (ascending_of_set ms set), all_kept p is_label ms (valid_of_set ms set), fits (length (filter p ms)) (omega arith)) refl
 
 -- ---- putting in
 

@@ -44,15 +44,15 @@ comes_before l [] = true
 comes_before l (m ∷ ms) = is_lt (label_cmp l m)
 
 -- each label comes before the next, so that none is there twice
-abbrev pub are_rising : List Label → Bool
-are_rising [] = true
-are_rising (l ∷ ls) = comes_before l ls && are_rising ls
+abbrev pub are_ascending : List Label → Bool
+are_ascending [] = true
+are_ascending (l ∷ ls) = comes_before l ls && are_ascending ls
 
--- a set is a rising list of at most 64 labels
+-- a set is an ascending list of at most 64 labels
 unfoldable pub is_label_set : List Label → Bool
-is_label_set ls = are_rising ls && list_all is_label ls && nat_le (length ls) max_labels
+is_label_set ls = are_ascending ls && list_all is_label ls && nat_le (length ls) max_labels
 
--- the label in its place among rising ones
+-- the label in its place among ascending ones
 abbrev pub put_label : Label → List Label → List Label
 put_label l [] = l ∷ []
 put_label l (m ∷ ms) = match_ordering (label_cmp l m) (l ∷ m ∷ ms) (m ∷ ms) (m ∷ put_label l ms)
@@ -61,7 +61,7 @@ put_label l (m ∷ ms) = match_ordering (label_cmp l m) (l ∷ m ∷ ms) (m ∷ 
 abbrev pub put_labels : List Label → List Label → List Label
 put_labels ls set = put_all put_label ls set
 
--- the labels as a rising list, without those that are there before
+-- the labels as an ascending list, without those that are there before
 abbrev pub labels_of : List Label → List Label
 labels_of ls = put_labels ls []
 
@@ -75,7 +75,7 @@ with_label l set = if is_label l then limited (put_label l set) else Err (BadNam
 abbrev pub labels_named : List ℕ → List Label → List Label
 labels_named name set = filter (λ l. bytes_eq l.name name) set
 
--- the values of one name, in rising order
+-- the values of one name, in ascending order
 abbrev pub values_of : List ℕ → List Label → List (List ℕ)
 values_of name set = map (λ l. l.value) (labels_named name set)
 
@@ -84,10 +84,10 @@ abbrev pub from_name : List ℕ → List Label → List Label
 from_name name [] = []
 from_name name (l ∷ ls) = if is_lt (slice_cmp nat_cmp l.name name) then from_name name ls else l ∷ ls
 
--- the labels in front that have the name
-abbrev pub named_front : List ℕ → List Label → List Label
-named_front name [] = []
-named_front name (l ∷ ls) = if bytes_eq l.name name then l ∷ named_front name ls else []
+-- the first labels, as long as they have the name
+abbrev pub named_prefix : List ℕ → List Label → List Label
+named_prefix name [] = []
+named_prefix name (l ∷ ls) = if bytes_eq l.name name then l ∷ named_prefix name ls else []
 
 -- the label is one of these
 abbrev pub same_label : Label → Label → Bool

@@ -3,7 +3,7 @@ use Rattle.std.specs.Prelude.{◌≡◌, Result, Ok, Err, ⊤}
 use Rattle.gz_label.specs.declared.name.LabelError.{LabelError}
 use Rattle.gz_label.specs.declared.name.LabelError.TheVariants.{BadName, TooMany, NoMemory}
 
--- an error is the one that reading gives, or the want of memory
+-- an error is the one that reading gives, or out of memory
 abbrev pub Fails : {Y : Type 0} → LabelError → Result Y LabelError → Type 0
 Fails (BadName at) read = read ≡ Err (BadName at)
 Fails TooMany read = read ≡ Err TooMany

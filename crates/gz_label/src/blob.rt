@@ -3,6 +3,7 @@ ghost use Rattle.std.specs.Prelude.{◌≡◌, ◌++◌, [], length, take, IfOk,
 
 use crate::NoMemory;
 use std::alloc::Global;
+use std::fmt;
 use std::marker::Model;
 
 /// Bytes, which a contract sees as their list.
@@ -96,5 +97,15 @@ impl Blob {
         ensures { IsTrue result ↔ (self.now ≡ []) }
     {
         self.bytes.is_empty()
+    }
+}
+
+/// The bytes as text, or how many there are where they aren't UTF-8.
+impl fmt::Display for Blob {
+    fn fmt<W: fmt::Write>(&self, f: &mut fmt::Formatter<W>) -> fmt::Result {
+        match str::from_utf8(self.as_slice()) {
+            Ok(text) => write!(f, "{text}"),
+            Err(_) => write!(f, "{} bytes", self.len()),
+        }
     }
 }

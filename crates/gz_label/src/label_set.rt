@@ -2,7 +2,7 @@
 ghost use Rattle.std.specs.Prelude.{◌≡◌, ◌≤◌, [], length, take, drop, filter, not, ◌++◌, option_to_list, Ok, IfOk, OnOk, OnErr, IsTrue, MatchOption};
 ghost use Rattle.std.specs.List.{insert, list_all};
 ghost use Rattle.gz_label.specs.Outcomes.{Gives};
-ghost use Rattle.gz_label.specs.Labels.{is_label, is_label_set, put_label, put_labels, with_label, labels_named, from_name, named_front, label_in, labels_in, has_label, has_name, set_of, print_of, print_more, spelling, takes, is_taken, labels_after, HoldsAfter};
+ghost use Rattle.gz_label.specs.Labels.{is_label, is_label_set, put_label, put_labels, with_label, labels_named, from_name, named_prefix, label_in, labels_in, has_label, has_name, set_of, print_of, print_more, spelling, takes, is_taken, labels_after, HoldsAfter};
 ghost use Rattle.gz_label.specs.Items.{items_of, limited};
 
 use crate::items::{Form, behind, find, first_bad, read_label};
@@ -14,7 +14,7 @@ use std::marker::Model;
 /// The most labels of a set.
 const MAX_LABELS: usize = 64;
 
-/// At most 64 labels, which a contract sees as the rising list of them: by name, and then by value.
+/// At most 64 labels, which a contract sees as the ascending list of them: by name, and then by value.
 #[derive(Debug, Drop)]
 pub struct LabelSet {
     labels: Vec<Label>,
@@ -32,9 +32,11 @@ impl Model for LabelSet {
     ghost invariant = { λ a. IsTrue (is_label_set a.labels.items) };
 }
 
-/// The place that the label would take among rising ones, or None where it is there.
+/// The place that the label would take among ascending ones, or None where it is there.
 fn place_of(label: &Label, labels: &[Label]) -> Option<usize>
-    ensures { MatchOption result (put_label label.now labels.now ≡ labels.now) (λ i. (i ≤ length labels.now) × (put_label label.now labels.now ≡ insert labels.now i label.now)) }
+    ensures { MatchOption result (put_label label.now labels.now ≡ labels.now)
+        (λ i. (i ≤ length labels.now)
+        × (put_label label.now labels.now ≡ insert labels.now i label.now)) }
 {
     for (i, other) in labels.iter().enumerate() {
         match label.cmp(other) {
@@ -46,7 +48,7 @@ fn place_of(label: &Label, labels: &[Label]) -> Option<usize>
     Some(labels.len())
 }
 
-/// How many of the rising labels have lesser names.
+/// How many of the ascending labels have lesser names.
 fn count_lesser(name: &[u8], labels: &[Label]) -> usize
     ensures value { drop result labels.now ≡ from_name name.now labels.now }
     ensures within { result ≤ length labels.now }
@@ -61,9 +63,9 @@ fn count_lesser(name: &[u8], labels: &[Label]) -> usize
     count
 }
 
-/// How many labels in front have the name.
+/// How many of the first labels have the name.
 fn count_named(name: &[u8], labels: &[Label]) -> usize
-    ensures value { take result labels.now ≡ named_front name.now labels.now }
+    ensures value { take result labels.now ≡ named_prefix name.now labels.now }
     ensures within { result ≤ length labels.now }
 {
     let mut count = 0;
@@ -106,7 +108,8 @@ fn append_more(text: &mut Blob, labels: &[Label]) -> Result<(), NoMemory>
 
 /// The labels that none of the set takes.
 fn copy_untaken(alloc: Global, labels: &[Label], take: &LabelSet) -> Result<Vec<Label>, NoMemory>
-    ensures { IfOk result (λ copied. copied.items ≡ filter (λ l. not (is_taken take.now l)) labels.now) }
+    ensures { IfOk result
+        (λ copied. copied.items ≡ filter (λ l. not (is_taken take.now l)) labels.now) }
 {
     let mut copied = Vec::new(alloc);
     for label in labels {
@@ -155,7 +158,7 @@ impl LabelSet {
     }
 
     /// The labels of the name, of which there may be none, by value. It takes no memory.
-    #[tactic(auto, using(crate::proofs::Named::named_front_of_set))]
+    #[tactic(auto, using(crate::proofs::Named::named_prefix_of_set))]
     pub fn labels_named(&self, name: &[u8]) -> &[Label]
         ensures { result.now ≡ labels_named name.now self.now }
     {
@@ -202,7 +205,9 @@ impl LabelSet {
 
     /// Puts in the label that the item says, if it says one.
     fn add_item(&mut self, alloc: Global, item: &[u8]) -> Result<(), LabelError>
-        ensures { Gives (λ _. self.new) result (limited (put_labels (option_to_list (label_in item.now)) self.old)) }
+        ensures { Gives
+            (λ _. self.new) result
+            (limited (put_labels (option_to_list (label_in item.now)) self.old)) }
     {
         let _ = &self.labels;
         match read_label(alloc, item)? {
@@ -213,7 +218,8 @@ impl LabelSet {
 
     /// Puts in the labels that the items of the text say.
     fn add_items(&mut self, alloc: Global, text: &[u8]) -> Result<(), LabelError>
-        ensures { Gives (λ _. self.new) result (limited (put_labels (labels_in (items_of text.now)) self.old)) }
+        ensures { Gives
+            (λ _. self.new) result (limited (put_labels (labels_in (items_of text.now)) self.old)) }
     {
         let mut rest = text;
         let mut goes_on = text.len() > 0;
@@ -276,7 +282,8 @@ impl LabelSet {
     /// its name, then those of `add` come. TooMany where more than 64 would be there.
     #[tactic(auto, using(crate::proofs::Sets::valid_of_set))]
     pub fn apply(&self, take: &LabelSet, add: &LabelSet) -> Result<LabelSet, LabelError>
-        ensures value { Gives (λ set. set) result (limited (labels_after self.now take.now add.now)) }
+        ensures value { Gives
+            (λ set. set) result (limited (labels_after self.now take.now add.now)) }
         ensures members { IfOk result (λ set. HoldsAfter set self.now take.now add.now) }
     {
         let mut set = self.without(take)?;

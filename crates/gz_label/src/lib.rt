@@ -1,4 +1,11 @@
-//! Names, bytes and labels, which contracts see as lists.
+//! Names, bytes and labels, which contracts see as lists; entries of journals, and keys with their writes.
+//!
+//! ```text
+//! let name = Name::read(alloc, b"src/a")?;                     // UTF-8 of at most 1,024 bytes
+//! let set = LabelSet::read(alloc, b"zone=eu,class=hot")?;      // sorted, each label once, at most 64
+//! let selector = Selector::read(alloc, b"zone=eu,!cold")?;      // each term has to hold
+//! if selector.matches(&set) { .. }
+//! ```
 #![tactic(auto)]
 
 mod blob;

@@ -6,6 +6,8 @@ ghost use Rattle.gz_label.specs.Names.{name_of};
 use crate::NoMemory;
 use std::alloc::{AllocError, AllocFailed, Global};
 use std::cmp::Ordering;
+use std::error::Error;
+use std::fmt;
 use std::hash::{Hash, Hasher};
 use std::marker::Model;
 
@@ -72,6 +74,18 @@ impl<T: Drop> From<AllocFailed<T>> for LabelError {
     }
 }
 
+impl fmt::Display for LabelError {
+    fn fmt<W: fmt::Write>(&self, f: &mut fmt::Formatter<W>) -> fmt::Result {
+        match self {
+            LabelError::BadName { at } => write!(f, "byte {at} isn't what should stand there"),
+            LabelError::TooMany => write!(f, "more than 64"),
+            LabelError::NoMemory => write!(f, "out of memory"),
+        }
+    }
+}
+
+impl Error for LabelError {}
+
 impl Name {
     /// The text as a name: UTF-8 of at most 1,024 bytes, which may be none. Else BadName with the first byte
     /// from which it isn't UTF-8, or with 1,024, the lesser; NoMemory where a name finds no memory.
@@ -127,6 +141,12 @@ impl Name {
         Ok(Name {
             text: self.text.clone()?,
         })
+    }
+}
+
+impl fmt::Display for Name {
+    fn fmt<W: fmt::Write>(&self, f: &mut fmt::Formatter<W>) -> fmt::Result {
+        write!(f, "{}", self.as_str())
     }
 }
 

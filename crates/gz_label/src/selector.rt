@@ -163,7 +163,9 @@ impl Selector {
 
     /// Puts in the term that the item says, if it says one.
     fn add_item(&mut self, alloc: Global, item: &[u8]) -> Result<(), LabelError>
-        ensures { Gives (λ _. self.new) result (limited (with_terms (option_to_list (term_in item.now)) self.old)) }
+        ensures { Gives
+            (λ _. self.new) result
+            (limited (with_terms (option_to_list (term_in item.now)) self.old)) }
     {
         let _ = &self.terms;
         match read_term(alloc, item)? {
@@ -174,7 +176,8 @@ impl Selector {
 
     /// Puts in the terms that the items of the text say.
     fn add_items(&mut self, alloc: Global, text: &[u8]) -> Result<(), LabelError>
-        ensures { Gives (λ _. self.new) result (limited (with_terms (terms_in (items_of text.now)) self.old)) }
+        ensures { Gives
+            (λ _. self.new) result (limited (with_terms (terms_in (items_of text.now)) self.old)) }
     {
         let mut rest = text;
         let mut goes_on = text.len() > 0;

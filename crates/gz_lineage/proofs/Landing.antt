@@ -54,19 +54,3 @@ lands_full r (landed.Landed begin stop) end e =
 lands_full r (WrongOffset head) end e = cc
 lands_full r (RegisterMismatch registers) end e = cc
 lands_full r (TooLarge limit) end e = cc
-
--- what is no reset isn't empty
-abbrev pub IsSome : Mark → Type 0
-IsSome Reset = Unit {0}
-IsSome (Added e) = 0 < length e.bytes
-
-pub landed_some : (prefix : List Mark) (m : Mark) → MarkLanded prefix m → IsSome m
-landed_some prefix Reset a = tt
-landed_some prefix (Added e) a = subst (λ (x : Entry). 0 < length x.bytes) (sym a.entry) (lands_full a.request (judged_at prefix a.request).landed a.end a.lands)
-
-pub lawful_some : (xs : List Mark) → ((k : ℕ) → k < length xs → IsSome (get_or xs k Reset)) → Each IsSome xs
-lawful_some [] f = tt
-lawful_some (x ∷ xs) f = (f 0 (omega arith), lawful_some xs (λ k l. f (suc k) (omega arith)))
-
-pub lawful_each : (xs : List Mark) → Lawful xs → Each IsSome xs
-lawful_each xs a = lawful_some xs (λ k l. landed_some (take k xs) (get_or xs k Reset) (a k l))

@@ -44,9 +44,9 @@ rest_bits i xs =
     ]
 
 -- the flags at place i of two rows were put behind the others
-pub either_turn : (r o : List Bool) (i : ℕ) (y : Bool) (front longer : List Bool) → i < length r → y ≡ (bit i r || bit i o) → longer ≡ front ++ y ∷ []
-    → longer ++ either (drop (i + 1) r) (drop (i + 1) o) ≡ front ++ either (drop i r) (drop i o)
-either_turn r o i y front longer below is l =
+pub either_turn : (r o : List Bool) (i : ℕ) (y : Bool) (prefix longer : List Bool) → i < length r → y ≡ (bit i r || bit i o) → longer ≡ prefix ++ y ∷ []
+    → longer ++ either (drop (i + 1) r) (drop (i + 1) o) ≡ prefix ++ either (drop i r) (drop i o)
+either_turn r o i y prefix longer below is l =
     rw (add-one, drop_bit i r below, first_bit i o, rest_bits i o, l, is, append_assoc) refl
 
 -- behind the last flag of a row the other's flags are left

@@ -10,7 +10,7 @@ use Rattle.std.proofs.lemmas.Option.{slice_get_past, slice_get-get_or}
 use Rattle.gz_spec.specs.Limits.{max_journals, max_shards}
 use Rattle.gz_spec.specs.Records.{JournalSpec, ShardSpec, Specs}
 use Rattle.gz_spec.specs.Framings.{framing_in}
-use Rattle.gz_links.specs.Links.{held}
+use Rattle.gz_links.specs.Links.{framing_at}
 use Rattle.gz_fields.specs.Lists.{is_used}
 use Rattle.gz_spec.specs.Specs.{name_of_journal, id_of_shard}
 use Rattle.gz_links.specs.Joins.{named_in}
@@ -122,12 +122,12 @@ held_turn true j o rest is = refl
 held_turn false j o rest is = is
 
 held_named : (js : List JournalSpec) (name : List ℕ)
-    → option_map (λ k. framing_in k.labels) (named_in name_of_journal name js) ≡ held js name
+    → option_map (λ k. framing_in k.labels) (named_in name_of_journal name js) ≡ framing_at js name
 held_named [] name = refl
-held_named (j ∷ js) name = held_turn (bytes_eq j.name name) j (named_in name_of_journal name js) (held js name) (held_named js name)
+held_named (j ∷ js) name = held_turn (bytes_eq j.name name) j (named_in name_of_journal name js) (framing_at js name) (held_named js name)
 
 pub held_by : (js : List JournalSpec) (name : List ℕ) (o : Option JournalSpec) → o ≡ named_in name_of_journal name js
-    → option_map (λ k. framing_in k.labels) o ≡ held js name
+    → option_map (λ k. framing_in k.labels) o ≡ framing_at js name
 held_by js name o is = ap (λ (p : Option JournalSpec). option_map (λ k. framing_in k.labels) p) is ∙ held_named js name
 
 -- ---- valid lists
@@ -161,9 +161,9 @@ short_id id is =
     at_most (length id) 32 (and_parts (nat_le 1 (length id)) (nat_le (length id) 32)
     (and_parts (nat_le 1 (length id) && nat_le (length id) 32) (list_all is_id_byte id) is).0).1
 
-pub short_log : (s : ShardSpec) (prefix front id text : List ℕ) → is_shard s ≡ true → prefix ≡ s.recovery_log_prefix
-    → front ≡ prefix ++ codes "/" → id ≡ s.id → text ≡ front ++ id → length text ≤ 1024
-short_log s prefix front id text valid first next last whole =
+pub short_log : (s : ShardSpec) (prefix folder id text : List ℕ) → is_shard s ≡ true → prefix ≡ s.recovery_log_prefix
+    → folder ≡ prefix ++ codes "/" → id ≡ s.id → text ≡ folder ++ id → length text ≤ 1024
+short_log s prefix folder id text valid first next last whole =
     let a = and_parts (is_id s.id) _ valid in
     let b = and_parts (are_sources s.sources) _ a.1 in
     let c = and_parts (is_journal_name s.recovery_log_prefix) _ b.1 in

@@ -8,7 +8,7 @@ use Rattle.gz_links.specs.declared.error.SpecError.TheVariants.{NoJournal}
 use Rattle.gz_spec.specs.Limits.{max_shards}
 use Rattle.gz_spec.specs.Records.{JournalSpec, SourceSpec, ShardSpec, Specs}
 use Rattle.gz_fields.specs.Paths.{below, at_place}
-use Rattle.gz_links.specs.Links.{held, is_readable, is_lines, is_log, sources_linked, log_name, log_linked, outputs_of, shard_linked, all_linked, is_linked, are_linked}
+use Rattle.gz_links.specs.Links.{framing_at, is_readable, is_lines, is_log, sources_linked, log_name, log_linked, outputs_of, shard_linked, all_linked, is_linked, are_linked}
 use Rattle.gz_links.specs.Cycles.{first_cycle, AreRanked}
 use Rattle.gz_spec.specs.Specs.{id_of_shard, part_of}
 use Rattle.gz_links.specs.Whole.{cycle_if, acyclic, whole, specs_of}
@@ -29,12 +29,12 @@ one_passed false r e u is = absurd (cc)
 
 sources_good : (journals : List JournalSpec) (path : List ℕ) (k : ℕ) (ss : List SourceSpec) (u : Unit {0})
     → sources_linked journals path k ss ≡ Ok u
-    → list_all (λ s. is_readable (held journals s.journal)) ss ≡ true
+    → list_all (λ s. is_readable (framing_at journals s.journal)) ss ≡ true
 sources_good journals path k [] u is = refl
 sources_good journals path k (s ∷ ss) u is =
-    let c = one_passed (is_readable (held journals s.journal)) (sources_linked journals path (k + 1) ss)
+    let c = one_passed (is_readable (framing_at journals s.journal)) (sources_linked journals path (k + 1) ss)
     (NoJournal (at_place path k)) u is in
-    both (is_readable (held journals s.journal)) (list_all (λ t. is_readable (held journals t.journal)) ss) c.0
+    both (is_readable (framing_at journals s.journal)) (list_all (λ t. is_readable (framing_at journals t.journal)) ss) c.0
     (sources_good journals path (k + 1) ss u c.1)
 
 shard_good : (journals : List JournalSpec) (path : List ℕ) (s : ShardSpec) (u : Unit {0})
@@ -43,11 +43,11 @@ unfolding shard_linked
 shard_good journals path s u is =
     let a = step (sources_linked journals (below path (codes "sources")) 0 s.sources) _ u is in
     let b = step (log_linked journals path s) _ u a.2 in
-    both (list_all (λ t. is_readable (held journals t.journal)) s.sources) _
+    both (list_all (λ t. is_readable (framing_at journals t.journal)) s.sources) _
     (sources_good journals (below path (codes "sources")) 0 s.sources a.0 a.1)
-    (both (is_log (held journals (log_name s))) (list_all (λ o. is_lines (held journals o)) (outputs_of s))
-    (chosen (is_log (held journals (log_name s))) tt b.0 (NoJournal (below path (codes "recovery_log_prefix"))) b.1).0
-    (chosen (list_all (λ o. is_lines (held journals o)) (outputs_of s)) tt u
+    (both (is_log (framing_at journals (log_name s))) (list_all (λ o. is_lines (framing_at journals o)) (outputs_of s))
+    (chosen (is_log (framing_at journals (log_name s))) tt b.0 (NoJournal (below path (codes "recovery_log_prefix"))) b.1).0
+    (chosen (list_all (λ o. is_lines (framing_at journals o)) (outputs_of s)) tt u
     (NoJournal (below path (codes "labels"))) b.2).0)
 
 all_good : (journals : List JournalSpec) (i : ℕ) (ss : List ShardSpec) (u : Unit {0})
@@ -106,29 +106,6 @@ whole_is_ranked specs good none =
 pub part_judged : (bytes : List ℕ) (specs : Specs) → part_of bytes ≡ Ok specs → specs_of bytes ≡ whole specs
 unfolding specs_of
 part_judged bytes specs is = rw is refl
-
-read_parts : (bytes : List ℕ) (specs : Specs) → specs_of bytes ≡ Ok specs
-    → (are_specs specs ≡ true) × IsWhole specs specs
-unfolding specs_of
-read_parts bytes specs is =
-    let a = step (of_fields (part_of bytes)) _ specs is in
-    let w = whole_good a.0 specs a.2 in
-    let P : Specs → Type 0 = λ s. (are_specs s ≡ true) × IsWhole s specs in
-    subst P w.same (part_is_valid bytes a.0 (fields_went (part_of bytes) a.0 a.1), w)
-
-pub read_is_valid : (bytes : List ℕ) (specs : Specs) → specs_of bytes ≡ Ok specs → are_specs specs ≡ true
-read_is_valid bytes specs is = (read_parts bytes specs is).0
-
-pub read_is_linked : (bytes : List ℕ) (specs : Specs) → specs_of bytes ≡ Ok specs
-    → are_linked specs.journals specs.shards ≡ true
-read_is_linked bytes specs is = (read_parts bytes specs is).1.linked
-
--- how many shards reach a shard is its number
-pub read_is_ranked : (bytes : List ℕ) (specs : Specs) → specs_of bytes ≡ Ok specs
-    → (number : List ℕ → ℕ) × AreRanked number specs.shards
-read_is_ranked bytes specs is =
-    let r = read_parts bytes specs is in
-    whole_is_ranked specs r.0 r.1.acyclic
 
 -- ---- one shard, and what it names
 

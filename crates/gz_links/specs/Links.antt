@@ -13,9 +13,9 @@ use Rattle.gz_spec.specs.Framings.{framing_in}
 use Rattle.gz_spec.specs.Records.{JournalSpec, SourceSpec, ShardSpec}
 
 -- what the journal of this name holds, if there is one
-abbrev pub held : List JournalSpec → List ℕ → Option Framing
-held [] name = None
-held (j ∷ js) name = if bytes_eq j.name name then Some (framing_in j.labels) else held js name
+abbrev pub framing_at : List JournalSpec → List ℕ → Option Framing
+framing_at [] name = None
+framing_at (j ∷ js) name = if bytes_eq j.name name then Some (framing_in j.labels) else framing_at js name
 
 -- ---- what a shard names
 
@@ -44,20 +44,20 @@ is_log (Some Bytes) = false
 -- the sources from place k on
 abbrev pub sources_linked : List JournalSpec → List ℕ → ℕ → List SourceSpec → Result (Unit {0}) SpecError
 sources_linked journals path k [] = Ok tt
-sources_linked journals path k (s ∷ ss) = if is_readable (held journals s.journal) then sources_linked journals path (k + 1) ss else Err (NoJournal (at_place path k))
+sources_linked journals path k (s ∷ ss) = if is_readable (framing_at journals s.journal) then sources_linked journals path (k + 1) ss else Err (NoJournal (at_place path k))
 
 -- A shard's recovery log has the prefix, `/` and the shard's id for a name.
 abbrev pub log_name : ShardSpec → List ℕ
 log_name shard = shard.recovery_log_prefix ++ codes "/" ++ shard.id
 
 abbrev pub log_linked : List JournalSpec → List ℕ → ShardSpec → Result (Unit {0}) SpecError
-log_linked journals path shard = if is_log (held journals (log_name shard)) then Ok tt else Err (NoJournal (below path (codes "recovery_log_prefix")))
+log_linked journals path shard = if is_log (framing_at journals (log_name shard)) then Ok tt else Err (NoJournal (below path (codes "recovery_log_prefix")))
 
 abbrev pub outputs_of : ShardSpec → List (List ℕ)
 outputs_of shard = values_of (codes "output") shard.labels
 
 abbrev pub outputs_linked : List JournalSpec → List ℕ → ShardSpec → Result (Unit {0}) SpecError
-outputs_linked journals path shard = if list_all (λ o. is_lines (held journals o)) (outputs_of shard) then Ok tt else Err (NoJournal (below path (codes "labels")))
+outputs_linked journals path shard = if list_all (λ o. is_lines (framing_at journals o)) (outputs_of shard) then Ok tt else Err (NoJournal (below path (codes "labels")))
 
 -- the journals of one shard: its sources, its recovery log, and its outputs
 unfoldable pub shard_linked : List JournalSpec → List ℕ → ShardSpec → Result (Unit {0}) SpecError
@@ -76,8 +76,8 @@ all_linked journals i (s ∷ ss) = shard_linked journals (at_place (codes "shard
 -- Each source can be read, the recovery log is one, and each output is a journal of lines.
 abbrev pub is_linked : List JournalSpec → ShardSpec → Bool
 is_linked journals shard =
-    list_all (λ s. is_readable (held journals s.journal)) shard.sources
-    && (is_log (held journals (log_name shard)) && list_all (λ o. is_lines (held journals o)) (outputs_of shard))
+    list_all (λ s. is_readable (framing_at journals s.journal)) shard.sources
+    && (is_log (framing_at journals (log_name shard)) && list_all (λ o. is_lines (framing_at journals o)) (outputs_of shard))
 
 abbrev pub are_linked : List JournalSpec → List ShardSpec → Bool
 are_linked journals shards = list_all (is_linked journals) shards

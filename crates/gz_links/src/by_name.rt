@@ -1,6 +1,6 @@
 //! Journals and shards, found by their names.
 ghost use Rattle.std.specs.Prelude.{◌≡◌, [], IfOk, IsTrue, map, option_map};
-ghost use Rattle.gz_links.specs.Links.{held};
+ghost use Rattle.gz_links.specs.Links.{framing_at};
 ghost use Rattle.gz_spec.specs.Specs.{name_of_journal, id_of_shard};
 ghost use Rattle.gz_links.specs.Joins.{named_in};
 ghost use Rattle.gz_spec.specs.Valid.{are_fresh};
@@ -83,8 +83,8 @@ impl<'a> JournalsByName<'a> {
     }
 
     /// What the journal of this name holds, if there is one. It takes no memory.
-    pub fn held(&self, name: &Name) -> Option<Framing>
-        ensures { result ≡ held self.now name.now }
+    pub fn framing_at(&self, name: &Name) -> Option<Framing>
+        ensures { result ≡ framing_at self.now name.now }
     {
         match self.named(name) {
             None => None,

@@ -75,7 +75,10 @@ fn refuse_changes(alloc: Global, old: &Journals, more: &Journals) -> Result<(), 
 fn join_journals(alloc: Global, old: &Journals, more: &Journals) -> Result<Journals, FieldError>
     requires old { IsTrue (are_journals old.now) }
     requires more { IsTrue (are_journals more.now) }
-    ensures gives { fields.Gives (λ _. tt) result (no_more_than max_journals (codes "journals") (length (joined name_of_journal old.now more.now))) }
+    ensures gives { fields.Gives
+        (λ _. tt) result
+        (no_more_than max_journals (codes "journals")
+        (length (joined name_of_journal old.now more.now))) }
     ensures both { IfOk result (λ js. js ≡ joined name_of_journal old.now more.now) }
     ensures valid { IfOk result (λ js. IsTrue (are_journals js)) }
 {
@@ -92,7 +95,9 @@ fn join_journals(alloc: Global, old: &Journals, more: &Journals) -> Result<Journ
 fn join_shards(alloc: Global, old: &Shards, more: &Shards) -> Result<Shards, FieldError>
     requires old { IsTrue (are_shards old.now) }
     requires more { IsTrue (are_shards more.now) }
-    ensures gives { fields.Gives (λ _. tt) result (no_more_than max_shards (codes "shards") (length (joined id_of_shard old.now more.now))) }
+    ensures gives { fields.Gives
+        (λ _. tt) result
+        (no_more_than max_shards (codes "shards") (length (joined id_of_shard old.now more.now))) }
     ensures both { IfOk result (λ ss. ss ≡ joined id_of_shard old.now more.now) }
     ensures valid { IfOk result (λ ss. IsTrue (are_shards ss)) }
 {

@@ -68,7 +68,9 @@ fn is_source(sources: &[SourceSpec], name: &Name) -> bool
 
 /// Whether one of the labels' outputs is among the sources.
 fn is_any_read(labels: &[Label], sources: &[SourceSpec]) -> bool
-    ensures { result ≡ list_any (λ o. list_any (λ u. bytes_eq u.journal o) sources.now) (values_of (codes "output") labels.now) }
+    ensures { result ≡ list_any
+        (λ o. list_any (λ u. bytes_eq u.journal o) sources.now)
+        (values_of (codes "output") labels.now) }
 {
     for label in labels {
         if label.name.as_slice() == b"output".as_slice() && is_source(sources, &label.value) {

@@ -3,6 +3,8 @@
 use gz_fields::FieldError;
 use gz_label::{Blob, NoMemory};
 use std::alloc::{AllocError, AllocFailed};
+use std::error::Error;
+use std::fmt;
 
 /// Why specifications are refused. A path names the first offender in reading order, as
 /// `shards[0].sources[1].journal`; it begins at the outermost object, and is empty where that is none.
@@ -17,6 +19,19 @@ pub enum SpecError {
     /// Memory ran out.
     NoMemory,
 }
+
+impl fmt::Display for SpecError {
+    fn fmt<W: fmt::Write>(&self, f: &mut fmt::Formatter<W>) -> fmt::Result {
+        match self {
+            SpecError::Field(field) => write!(f, "{field}"),
+            SpecError::NoJournal { path } => write!(f, "no journal {path}"),
+            SpecError::Cycle { path } => write!(f, "cycle {path}"),
+            SpecError::NoMemory => write!(f, "out of memory"),
+        }
+    }
+}
+
+impl Error for SpecError {}
 
 impl From<FieldError> for SpecError {
     ghost use Rattle.std.specs.Prelude.{◌≡◌};

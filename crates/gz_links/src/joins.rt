@@ -20,7 +20,8 @@ fn same_content(labels: &LabelSet, others: &LabelSet) -> bool
 
 /// Whether the journal holds what the one of its name among the old ones does, if there is one.
 fn keeps_content(old: &JournalsByName, journal: &JournalSpec) -> bool
-    ensures { result ≡ keeps_content (named_in name_of_journal journal.now.name old.now) journal.now }
+    ensures { result
+        ≡ keeps_content (named_in name_of_journal journal.now.name old.now) journal.now }
 {
     match old.named(&journal.name) {
         None => true,

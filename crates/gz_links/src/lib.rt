@@ -18,7 +18,7 @@ mod links;
 pub use cluster::{join, read_specs};
 pub use cycles::first_cycle;
 pub use error::SpecError;
-pub use links::held;
+pub use links::framing_at;
 
 #[cfg(test)]
 mod tests;

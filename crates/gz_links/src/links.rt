@@ -3,7 +3,7 @@ ghost use Rattle.std.specs.Prelude.{◌≡◌, IfOk, codes};
 ghost use Rattle.std.specs.List.{list_all};
 ghost use Rattle.gz_label.specs.Labels.{values_of};
 ghost use Rattle.gz_links.specs.Outcomes.{Gives};
-ghost use Rattle.gz_links.specs.Links.{held, is_lines, is_log, is_readable, sources_linked, log_name, log_linked, outputs_linked, shard_linked, all_linked};
+ghost use Rattle.gz_links.specs.Links.{framing_at, is_lines, is_log, is_readable, sources_linked, log_name, log_linked, outputs_linked, shard_linked, all_linked};
 
 use crate::SpecError;
 use crate::by_name::JournalsByName;
@@ -13,8 +13,8 @@ use gz_spec::{Framing, JournalSpec, ShardSpec, SourceSpec};
 use std::alloc::Global;
 
 /// What the journal of this name holds, if there is one. Time goes with the number of journals.
-pub fn held(journals: &[JournalSpec], name: &[u8]) -> Option<Framing>
-    ensures { result ≡ held journals.now name.now }
+pub fn framing_at(journals: &[JournalSpec], name: &[u8]) -> Option<Framing>
+    ensures { result ≡ framing_at journals.now name.now }
 {
     for journal in journals {
         if journal.name.as_slice() == name {
@@ -60,7 +60,7 @@ fn refuse_sources(
     ensures { Gives (λ u. u) result (sources_linked journals.now path.now 0 sources.now) }
 {
     for (k, source) in sources.iter().enumerate() {
-        if !is_readable(journals.held(&source.journal)) {
+        if !is_readable(journals.framing_at(&source.journal)) {
             return Err(SpecError::NoJournal {
                 path: path_of_item(alloc, path, k)?,
             });
@@ -88,7 +88,7 @@ fn refuse_log(
     ensures { Gives (λ u. u) result (log_linked journals.now path.now shard.now) }
 {
     let name = log_name(alloc, shard)?;
-    if !is_log(journals.held(&name)) {
+    if !is_log(journals.framing_at(&name)) {
         return Err(SpecError::NoJournal {
             path: path_below(alloc, path, "recovery_log_prefix")?,
         });
@@ -98,10 +98,13 @@ fn refuse_log(
 
 /// Whether each value of the labels `output` names a journal of lines.
 fn are_lines(journals: &JournalsByName, labels: &[Label]) -> bool
-    ensures { result ≡ list_all (λ o. is_lines (held journals.now o)) (values_of (codes "output") labels.now) }
+    ensures { result ≡ list_all
+        (λ o. is_lines (framing_at journals.now o)) (values_of (codes "output") labels.now) }
 {
     for label in labels {
-        if label.name.as_slice() == b"output".as_slice() && !is_lines(journals.held(&label.value)) {
+        if label.name.as_slice() == b"output".as_slice()
+            && !is_lines(journals.framing_at(&label.value))
+        {
             return false;
         }
     }

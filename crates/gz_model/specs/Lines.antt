@@ -5,7 +5,7 @@ use Rattle.std.specs.Prelude.{◌≡◌, ℕ, ◌+◌, ◌==◌, List, [], ◌�
 abbrev pub newline : ℕ
 newline = 10
 
--- a byte in front of the first line
+-- a byte before the first line
 abbrev pub onto : ℕ → List (List ℕ) → List (List ℕ)
 onto b [] = (b ∷ []) ∷ []
 onto b (line ∷ lines) = (b ∷ line) ∷ lines

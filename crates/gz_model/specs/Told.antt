@@ -19,9 +19,9 @@ abbrev pub HasLongLine : ℕ → Option (List ℕ) → Type 0
 HasLongLine limit None = ⊤
 HasLongLine limit (Some bytes) = (line : List ℕ) × (lines : List (List ℕ)) × (lines_of bytes ≡ line ∷ lines) × (limit < length line)
 
--- a front of the bytes goes behind what is held
-abbrev pub AppendsFront : Option (List ℕ) → Option (List ℕ) → List ℕ → Type 0
-AppendsFront old new bytes = (n : ℕ) × Appends old new (take n bytes)
+-- a prefix of the bytes goes behind what is held
+abbrev pub AppendsPrefix : Option (List ℕ) → Option (List ℕ) → List ℕ → Type 0
+AppendsPrefix old new bytes = (n : ℕ) × Appends old new (take n bytes)
 
 -- n bytes come from what is left, and go behind those that were read
 abbrev pub ReadsMore : ℕ → List ℕ → List ℕ → Option (List ℕ) → Option (List ℕ) → Type 0

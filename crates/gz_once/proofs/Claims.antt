@@ -45,15 +45,12 @@ in_back : {A : Type 0} (xs ys : List A) (x : A) → In x ys → In x (xs ++ ys)
 in_back [] ys x i = i
 in_back (y ∷ xs) ys x i = inr (in_back xs ys x i)
 
--- what was accepted of a front is a prefix
+-- what was accepted of a prefix is a prefix
 prefix_refl : {A : Type 0} (xs : List A) → IsPrefix xs xs
 prefix_refl xs = ([], append-nil xs)
 
 prefix_more : {A : Type 0} (xs ys zs : List A) → IsPrefix xs ys → IsPrefix xs (ys ++ zs)
 prefix_more xs ys zs p = (p.0 ++ zs, sym (append_assoc xs p.0 zs) ∙ ap (λ v. v ++ zs) p.1)
-
-prefix_trans : {A : Type 0} (xs ys zs : List A) → IsPrefix xs ys → IsPrefix ys zs → IsPrefix xs zs
-prefix_trans xs ys zs p q = (p.0 ++ q.0, sym (append_assoc xs p.0 q.0) ∙ ap (λ v. v ++ q.0) p.1 ∙ q.1)
 
 pub prefix_drop : {A : Type 0} (xs ys : List A) → IsPrefix xs ys → xs ++ drop (length xs) ys ≡ ys
 prefix_drop xs ys p = ap (λ v. xs ++ drop (length xs) v) (sym p.1) ∙ ap (λ v. xs ++ v) (drop_append xs p.0) ∙ p.1

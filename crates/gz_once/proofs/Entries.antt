@@ -7,7 +7,7 @@ use Rattle.gz_reader.specs.Reader.{Line, updated}
 use Rattle.gz_once.specs.Applications.{App}
 use Rattle.gz_once.specs.Log.{Transaction, lines, Entry, Committed, last}
 use Rattle.gz_once.specs.Processes.{Append, Handoff, Commit, Lines, Ack, Process}
-use Rattle.gz_once.specs.Worlds.{Slot, Waits, Landed, Refused, Shared, mark, held}
+use Rattle.gz_once.specs.Worlds.{Slot, Waits, Landed, Refused, Shared, mark, append_of}
 use Rattle.gz_once.proofs.Facts.{want, before}
 use Rattle.gz_reader.proofs.Updates.{some_same, upd_here, upd_other, upd_each}
 use Rattle.gz_once.proofs.Logs.{Absent}
@@ -94,7 +94,7 @@ module _ (g : App) (s : Shared) (h : Ghost) (ok : SharedOk g s h) (i : ℕ) (x :
 
     -- what was judged before
     pub landed_on : LandedOk s x → (m : ℕ) (y : Append) → updated s.slots i v m ≡ Landed y → LandedOk s y
-    landed_on q m y = upd_each s.slots i v (λ n r. r ≡ Landed y → LandedOk s y) (λ z. subst (LandedOk s) (some_same (sym jd.0 ∙ ap held z)) q) m (λ _ z. ok.landed m y z)
+    landed_on q m y = upd_each s.slots i v (λ n r. r ≡ Landed y → LandedOk s y) (λ z. subst (LandedOk s) (some_same (sym jd.0 ∙ ap append_of z)) q) m (λ _ z. ok.landed m y z)
 
     pub landed_as : (y : Append) → LandedOk s y → LandedOk t1 y
     landed_as (Handoff b o nn) q = tt

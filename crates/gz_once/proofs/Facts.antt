@@ -8,7 +8,7 @@ use Rattle.gz_reader.specs.Reader.{Line, Message, Continue, Acknowledge, Rest, r
 use Rattle.gz_once.specs.Applications.{App, values_to}
 use Rattle.gz_once.specs.Log.{Transaction, ack, lines, needs, Entry, Handed, Committed, by, author_of, last, count, end_of}
 use Rattle.gz_once.specs.Processes.{Append, Handoff, Commit, Lines, Ack, Stand, Todo, Asked, Done, Phase, Playing, Handing, Acking, Drawing, Reading, Publishing, Committing, Sending, Process}
-use Rattle.gz_once.specs.Worlds.{Slot, Free, Waits, Landed, Refused, Shared, World, held}
+use Rattle.gz_once.specs.Worlds.{Slot, Free, Waits, Landed, Refused, Shared, World, append_of}
 use Rattle.gz_once.specs.Theorem.{Intent}
 use Rattle.gz_reader.specs.Reader.{values_of}
 use Rattle.gz_reader.proofs.Updates.{some_same, none_some}
@@ -187,13 +187,13 @@ SendOk g s h q x (Refused y) = (h.pending q.author ≡ None) × Since q.author q
 -- Acking: what was asked for is the acknowledgement of the last commit, and what is done is in its output
 abbrev pub AckStand : App → Shared → Option Transaction → ℕ → Stand → Type 0
 AckStand g s l j Todo = Unit {0}
-AckStand g s l j (Asked i) = (x : Transaction) × (l ≡ Some x) × (needs g x j ≡ true) × (held (s.slots i) ≡ Some (Ack j x.producer (ack x)))
+AckStand g s l j (Asked i) = (x : Transaction) × (l ≡ Some x) × (needs g x j ≡ true) × (append_of (s.slots i) ≡ Some (Ack j x.producer (ack x)))
 AckStand g s l j Done = (x : Transaction) → l ≡ Some x → Acked g s.outs x j
 
 -- Publishing: what was asked for are the transaction's lines, and what is done is with the output's reader
 abbrev pub PubStand : App → Shared → Process → Transaction → ℕ → Stand → Type 0
 PubStand g s q x j Todo = Unit {0}
-PubStand g s q x j (Asked i) = (held (s.slots i) ≡ Some (Lines j q.producer (lines g x j))) × (InForce s q → s.slots i ≡ Landed (Lines j q.producer (lines g x j)) → Stock g s x j)
+PubStand g s q x j (Asked i) = (append_of (s.slots i) ≡ Some (Lines j q.producer (lines g x j))) × (InForce s q → s.slots i ≡ Landed (Lines j q.producer (lines g x j)) → Stock g s x j)
 PubStand g s q x j Done = InForce s q → Stock g s x j
 
 -- Its producer has no transaction, or that of the last commit that it knows, and its clock is the next one. A transaction
@@ -280,7 +280,7 @@ TextAs g s h j m = ((x : Transaction) × In x (h.begun m.producer) × (m.kind �
     ((m.kind ≡ Acknowledge) × (m.value ≡ 0) × Intent g s j m.producer m.clock)
 
 pub record Spoken (g : App) (s : Shared) (h : Ghost) : Type 0 where
-  pub slots : (i : ℕ) (a : Append) → held (s.slots i) ≡ Some a → SpokenAs g s h a
+  pub slots : (i : ℕ) (a : Append) → append_of (s.slots i) ≡ Some a → SpokenAs g s h a
   pub texts : (j : ℕ) (m : Message) → In m (s.outs j) → s.own m.producer ≡ true → TextAs g s h j m
   pub commits : (x : Transaction) → In (Committed x) s.log → In x (h.begun x.producer)
 

@@ -7,7 +7,7 @@ use Rattle.gz_reader.specs.Reader.{Message}
 use Rattle.gz_once.specs.Applications.{App}
 use Rattle.gz_once.specs.Log.{Transaction, lines, Entry, Handed, Committed, by, author_of, last, count}
 use Rattle.gz_once.specs.Processes.{Append, Handoff, Commit, Lines, Ack, Stand, Todo, Asked, Done, Phase, Playing, Handing, Acking, Drawing, Reading, Publishing, Committing, Sending, Process}
-use Rattle.gz_once.specs.Worlds.{Slot, Free, Waits, Landed, Refused, Shared, held}
+use Rattle.gz_once.specs.Worlds.{Slot, Free, Waits, Landed, Refused, Shared, append_of}
 use Rattle.gz_once.proofs.Logs.{Absent, Since, Follows, Up, follows_up, settled_up, LastSettled}
 use Rattle.gz_once.proofs.Facts.{Ghost, newest, cur, bound, seen, NoAcks, Stock, InForce, HandOk, SendOk, AckStand, PubStand, Own, Unused, Rules, Fits, Silent, PhaseOk, ProcOk, Ready, CommitWaits, SpokenAs, TextAs, Spoken}
 
@@ -32,7 +32,7 @@ pub record Kept (g : App) (s t : Shared) (h k : Ghost) (a p : ℕ) : Type 0 wher
   pub log : (t.log ≡ s.log) ⊎ New s.log t.log a
   pub outs : (j : ℕ) (m : Message) → In m (s.outs j) → In m (t.outs j)
   pub sources : Up g s.sources t.sources
-  pub holds : (i : ℕ) (x : Append) → held (s.slots i) ≡ Some x → held (t.slots i) ≡ Some x
+  pub holds : (i : ℕ) (x : Append) → append_of (s.slots i) ≡ Some x → append_of (t.slots i) ≡ Some x
   pub landed : (i : ℕ) (x : Append) → s.slots i ≡ Landed x → t.slots i ≡ Landed x
   pub refused : (i : ℕ) (x : Append) → s.slots i ≡ Refused x → t.slots i ≡ Refused x
   pub main : (i : ℕ) (x : Append) → s.slots i ≡ Waits x → OfLog a x → t.slots i ≡ Waits x
@@ -210,7 +210,7 @@ module _ (g : App) (s t : Shared) (h k : Ghost) (log : (e : Entry) → In e s.lo
     | inr d ↦ (let i = d.2 in inr (d.0, d.1, (i.0, log (Committed i.0) i.1, i.2, i.3, i.4)))
   ]
 
-  pub spoken_up : ((i : ℕ) (a : Append) → held (t.slots i) ≡ Some a → (held (s.slots i) ≡ Some a) ⊎ SpokenAs g t k a) →
+  pub spoken_up : ((i : ℕ) (a : Append) → append_of (t.slots i) ≡ Some a → (append_of (s.slots i) ≡ Some a) ⊎ SpokenAs g t k a) →
       ((j : ℕ) (m : Message) → In m (t.outs j) → t.own m.producer ≡ true → (In m (s.outs j) × (s.own m.producer ≡ true)) ⊎ TextAs g t k j m) →
       ((x : Transaction) → In (Committed x) t.log → In (Committed x) s.log ⊎ In x (k.begun x.producer)) → Spoken g s h → Spoken g t k
   spoken_up slots texts commits o = record {

@@ -4,7 +4,7 @@ use Rattle.std.proofs.lemmas.Bool.{cond_both}
 use Rattle.std.specs.Prelude.{nat_lt, ◌&&◌, not}
 use Rattle.gz_reader.specs.Lists.{Begins}
 use Rattle.gz_reader.specs.Reader.{Line, Message, updated, line_message, pour, acknowledgement}
-use Rattle.gz_once.specs.Applications.{App, front, parts}
+use Rattle.gz_once.specs.Applications.{App, prefix, parts}
 use Rattle.gz_once.specs.Processes.{Append, Handoff, Commit, Lines, Ack, Stand, Todo, Asked, Done, Outcome, Item, Fed, Drew, Ask, Ask_at, Go, Good, Bad, Lost, Good_at, Bad_at, Lost_at, Consumed, Begin}
 use Rattle.gz_once.specs.Log.{last, offsets_of}
 use Rattle.gz_once.specs.Worlds as journals
@@ -91,7 +91,7 @@ happens_grow g w (Grow k m) = record { log = begins_refl w.shared.log; outs = λ
 happens_grow g w (Other j m) = cond_both _ _ w (λ v. Grown w.shared v.shared)
     (λ _. record { log = begins_refl w.shared.log; outs = one w.shared.outs j (m ∷ w.shared.outs j) (begins_push m (w.shared.outs j)); sources = λ k. begins_refl (w.shared.sources k) }) (λ _. grown_refl w.shared)
 happens_grow g w (Skip d) = cond_both (nat_lt w.shared.drawn d) (record w { shared = record w.shared { drawn = d } }) w (λ v. Grown w.shared v.shared) (λ _. record { log = begins_refl w.shared.log; outs = λ j. begins_refl (w.shared.outs j); sources = λ k. begins_refl (w.shared.sources k) }) (λ _. grown_refl w.shared)
-happens_grow g w (Feed p n) = does_grow g w p (Fed (front n w.shared.log))
+happens_grow g w (Feed p n) = does_grow g w p (Fed (prefix n w.shared.log))
 happens_grow g w (Draw d) = cond_both (nat_lt w.shared.drawn d && not (g.foreign d)) (record w { shared = record w.shared { drawn = d; own = updated w.shared.own d true; free = updated w.shared.free d true } }) w (λ v. Grown w.shared v.shared) (λ _. record { log = begins_refl w.shared.log; outs = λ j. begins_refl (w.shared.outs j); sources = λ k. begins_refl (w.shared.sources k) }) (λ _. grown_refl w.shared)
 happens_grow g w (Take p d) = cond_both (w.shared.free d) (does g (record w { shared = record w.shared { free = updated w.shared.free d false } }) p (Drew d)) w (λ v. Grown w.shared v.shared)
     (λ _. grown_trans w.shared (record w.shared { free = updated w.shared.free d false }) _

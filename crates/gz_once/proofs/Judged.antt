@@ -7,7 +7,7 @@ use Rattle.gz_reader.specs.Reader.{Line, Message, updated}
 use Rattle.gz_once.specs.Applications.{App}
 use Rattle.gz_once.specs.Log.{Transaction, ack, lines, needs, Entry, Handed, Committed, by, author_of, last, count, end_of}
 use Rattle.gz_once.specs.Processes.{Append, Handoff, Commit, Lines, Ack, Phase, Playing, Handing, Acking, Drawing, Reading, Publishing, Committing, Sending, Process}
-use Rattle.gz_once.specs.Worlds.{Slot, Free, Waits, Landed, Refused, Shared, held}
+use Rattle.gz_once.specs.Worlds.{Slot, Free, Waits, Landed, Refused, Shared, append_of}
 use Rattle.gz_reader.proofs.Updates.{some_same, none_some, upd_here, upd_other, upd_each}
 use Rattle.gz_once.proofs.Logs.{Since}
 use Rattle.gz_once.proofs.Facts.{Ghost, cur, seen, NoAcks, Stock, HandoffWaits, CommitWaits, HandOk, SendOk, Fits, PhaseOk, ProcOk, SharedOk}
@@ -17,7 +17,7 @@ use Rattle.gz_once.proofs.Sends.{up_refl, free_held}
 
 -- the slot says that x was judged
 abbrev pub Judgement : Append → Slot → Type 0
-Judgement x v = (held v ≡ Some x) × ((y : Append) → v ≡ Waits y → ⊥)
+Judgement x v = (append_of v ≡ Some x) × ((y : Append) → v ≡ Waits y → ⊥)
 
 pub judged_landed : (x : Append) → Judgement x (Landed x)
 judged_landed x = (refl, λ y e. cc)
@@ -30,14 +30,14 @@ module _ (g : App) (s : Shared) (h : Ghost) (ok : SharedOk g s h) (i : ℕ) (x :
   still_waits m y = upd_each s.slots i v (λ n r. r ≡ Waits y → (n ≡ i → ⊥) × (s.slots n ≡ Waits y)) (λ z. absurd (jd.1 y z)) m (λ d z. (d, z))
 
   pub was_count : i < s.count
-  was_count = elim (cases_lt i s.count) [ inl l ↦ l | inr l ↦ absurd (free_held (ok.fresh i l) (ap held e)) ]
+  was_count = elim (cases_lt i s.count) [ inl l ↦ l | inr l ↦ absurd (free_held (ok.fresh i l) (ap append_of e)) ]
 
   pub fresh_on : (m : ℕ) → s.count ≤ m → updated s.slots i v m ≡ Free
   fresh_on m l = upd_other s.slots i v m (λ z. let k = was_count in omega arith) ∙ ok.fresh m l
 
   -- what was said in appends stays
-  pub still_held : (m : ℕ) (y : Append) → held (updated s.slots i v m) ≡ Some y → held (s.slots m) ≡ Some y
-  still_held m y = upd_each s.slots i v (λ n r. held r ≡ Some y → held (s.slots n) ≡ Some y) (λ z. ap held e ∙ sym jd.0 ∙ z) m (λ _ z. z)
+  pub still_held : (m : ℕ) (y : Append) → append_of (updated s.slots i v m) ≡ Some y → append_of (s.slots m) ≡ Some y
+  still_held m y = upd_each s.slots i v (λ n r. append_of r ≡ Some y → append_of (s.slots n) ≡ Some y) (λ z. ap append_of e ∙ sym jd.0 ∙ z) m (λ _ z. z)
 
   pub judged_kept : (l : List Entry) (rg : ℕ) (o : ℕ → List Message) (f : ℕ → Option ℕ) (a p : ℕ) →
       (l ≡ s.log) ⊎ New s.log l a → ((j : ℕ) (m : Message) → In m (s.outs j) → In m (o j)) →
@@ -50,10 +50,10 @@ module _ (g : App) (s : Shared) (h : Ghost) (ok : SharedOk g s h) (i : ℕ) (x :
     log = new;
     outs = ins;
     sources = up_refl g s.sources;
-    holds = λ m y. upd_each s.slots i v (λ n r. held (s.slots n) ≡ Some y → held r ≡ Some y) (λ z. jd.0 ∙ sym (ap held e) ∙ z) m (λ _ z. z);
+    holds = λ m y. upd_each s.slots i v (λ n r. append_of (s.slots n) ≡ Some y → append_of r ≡ Some y) (λ z. jd.0 ∙ sym (ap append_of e) ∙ z) m (λ _ z. z);
     landed = λ m y z. upd_other s.slots i v m (λ q. waits_landed (sym e ∙ sym (ap s.slots q) ∙ z)) ∙ z;
     refused = λ m y z. upd_other s.slots i v m (λ q. waits_refused (sym e ∙ sym (ap s.slots q) ∙ z)) ∙ z;
-    main = λ m y z q. upd_other s.slots i v m (λ r. other (subst (OfLog a) (some_same (ap held (sym z ∙ ap s.slots r ∙ e))) q)) ∙ z;
+    main = λ m y z q. upd_other s.slots i v m (λ r. other (subst (OfLog a) (some_same (ap append_of (sym z ∙ ap s.slots r ∙ e))) q)) ∙ z;
     acks = λ u m j c z. (still_waits m (Ack j p c) z).1;
     stock = stock;
     low = low;
@@ -96,7 +96,7 @@ module _ (g : App) (s : Shared) (h : Ghost) (ok : SharedOk g s h) (i : ℕ) (x :
       hands n (Waits y) z c w =
           let u : HandoffWaits s h n q.author (end_of q.text) (count q.text + 1) = ok.waits n (Handoff q.author (end_of q.text) (count q.text + 1)) (z ∙ ap Waits w) in
           let ni : n ≡ i = some_same (sym u.pending ∙ ap h.pending own ∙ pend) in
-          let xy : x ≡ Handoff q.author (end_of q.text) (count q.text + 1) = some_same (ap held (sym e ∙ ap s.slots (sym ni) ∙ z)) ∙ w in
+          let xy : x ≡ Handoff q.author (end_of q.text) (count q.text + 1) = some_same (ap append_of (sym e ∙ ap s.slots (sym ni) ∙ z)) ∙ w in
           let r = hand xy c in
           (r.0, subst (HandOk (record s { log = l; register = rg; slots = updated s.slots i v }) (record h { pending = updated h.pending b None }) q) (sym (ap (updated s.slots i v) ni ∙ upd_here s.slots i v)) r.1)
 
@@ -107,7 +107,7 @@ module _ (g : App) (s : Shared) (h : Ghost) (ok : SharedOk g s h) (i : ℕ) (x :
       commits y n (Waits c) z f w =
           let u : CommitWaits g s h n y = ok.waits n (Commit y) (z ∙ ap Waits w.0) in
           let ni : n ≡ i = some_same (sym u.pending ∙ ap h.pending (f.author ∙ own) ∙ pend) in
-          let xy : x ≡ Commit y = some_same (ap held (sym e ∙ ap s.slots (sym ni) ∙ z)) ∙ w.0 in
+          let xy : x ≡ Commit y = some_same (ap append_of (sym e ∙ ap s.slots (sym ni) ∙ z)) ∙ w.0 in
           subst (SendOk g (record s { log = l; register = rg; slots = updated s.slots i v }) (record h { pending = updated h.pending b None }) q y) (sym (ap (updated s.slots i v) ni ∙ upd_here s.slots i v)) (send y xy f w.1)
 
       by_phase : (f : Phase) → PhaseOk g s h q f → PhaseOk g (record s { log = l; register = rg; slots = updated s.slots i v }) (record h { pending = updated h.pending b None }) q f

@@ -7,7 +7,7 @@ use Rattle.gz_reader.specs.Reader.{read, updated}
 use Rattle.gz_once.specs.Applications.{App}
 use Rattle.gz_once.specs.Log.{Transaction, ack, lines, needs, Entry, Handed, Committed, by, author_of, count, end_of}
 use Rattle.gz_once.specs.Processes.{Append, Handoff, Commit, Lines, Ack, Process}
-use Rattle.gz_once.specs.Worlds.{Waits, Landed, Shared, put, mark, held}
+use Rattle.gz_once.specs.Worlds.{Waits, Landed, Shared, put, mark, append_of}
 use Rattle.gz_reader.specs.Reader.{values_of}
 use Rattle.gz_once.proofs.Facts.{want}
 use Rattle.gz_reader.proofs.Updates.{some_same, upd_here, upd_each}
@@ -76,7 +76,7 @@ module _ (g : App) (s : Shared) (h : Ghost) (ok : SharedOk g s h) (i b o nn : �
     rests = rest_on g s h ok i x e l b (Landed x) (judged_landed x) (after h.pending x) (λ y q. inr q);
     outs = out_on g s h ok i x e l b (Landed x) (judged_landed x) (after h.pending x) (λ y q. inr q) refl (λ j. refl) (λ j. refl);
     waits = λ m y z. let q = still_waits g s h ok i x e (Landed x) (judged_landed x) m y z in hand_waits m y q.0 z (ok.waits m y q.1);
-    landed = λ m y. upd_each s.slots i (Landed x) (λ n r. r ≡ Landed y → LandedOk t y) (λ z. subst (LandedOk t) (some_same (ap held z)) tt) m
+    landed = λ m y. upd_each s.slots i (Landed x) (λ n r. r ≡ Landed y → LandedOk t y) (λ z. subst (LandedOk t) (some_same (ap append_of z)) tt) m
         (λ _ z. landed_as g s h ok i x e l b (Landed x) (judged_landed x) (after h.pending x) (λ y q. inr q) y (ok.landed m y z));
     fresh = fresh_on g s h ok i x e (Landed x) (judged_landed x);
     register = inr refl;
@@ -171,7 +171,7 @@ module _ (g : App) (s : Shared) (h : Ghost) (ok : SharedOk g s h) (i : ℕ) (x :
     rests = rest_on g s h ok i cx e lc s.register (Landed cx) (judged_landed cx) (after h.pending cx) (λ y q. inr q);
     outs = λ j. comm_out j (needs g x j) refl;
     waits = λ m y z. let q = still_waits g s h ok i cx e (Landed cx) (judged_landed cx) m y z in comm_waits m y q.0 z (ok.waits m y q.1);
-    landed = λ m y. upd_each s.slots i (Landed cx) (λ n r. r ≡ Landed y → LandedOk tc y) (λ z. subst (LandedOk tc) (some_same (ap held z)) tt) m
+    landed = λ m y. upd_each s.slots i (Landed cx) (λ n r. r ≡ Landed y → LandedOk tc y) (λ z. subst (LandedOk tc) (some_same (ap append_of z)) tt) m
         (λ _ z. landed_as g s h ok i cx e lc s.register (Landed cx) (judged_landed cx) (after h.pending cx) (λ y q. inr q) y (ok.landed m y z));
     fresh = fresh_on g s h ok i cx e (Landed cx) (judged_landed cx);
     register = ok.register;

@@ -8,20 +8,20 @@ use Rattle.gz_once.specs.Log.{Transaction, ack, lines}
 use Rattle.gz_once.specs.Processes.{Append, Handoff, Commit, Lines, Ack}
 use Rattle.gz_once.specs.Worlds.{Shared, Event, run, start}
 use Rattle.gz_once.specs.Theorem.{Intent, Carries, Speaks, OfCommits, OneMessage}
-use Rattle.gz_reader.proofs.Appends.{Rising, Below}
-use Rattle.gz_once.proofs.TxLines.{lines_rising, lines_below}
+use Rattle.gz_reader.proofs.Appends.{Ascending, Below}
+use Rattle.gz_once.proofs.TxLines.{lines_ascending, lines_below}
 use Rattle.gz_once.proofs.Facts.{Ghost, newest, bound, History, SpokenAs, TextAs, SharedOk, Invariant}
 use Rattle.gz_once.proofs.Run.{holds}
 
-rising_in : (n : ℕ) (ls : List Line) (l : Line) → Rising n ls → In l ls → n ≤ l.clock
-rising_in n [] l r i = absurd i
-rising_in n (x ∷ ls) l r i = elim i [ inl e ↦ subst (λ v. n ≤ v.clock) (sym e) r.0 | inr j ↦ (let h = rising_in (x.clock + 1) ls l r.1 j in omega (arith, h, r.0)) ]
+ascending_in : (n : ℕ) (ls : List Line) (l : Line) → Ascending n ls → In l ls → n ≤ l.clock
+ascending_in n [] l r i = absurd i
+ascending_in n (x ∷ ls) l r i = elim i [ inl e ↦ subst (λ v. n ≤ v.clock) (sym e) r.0 | inr j ↦ (let h = ascending_in (x.clock + 1) ls l r.1 j in omega (arith, h, r.0)) ]
 
 below_in : (n : ℕ) (ls : List Line) (l : Line) → Below n ls → In l ls → l.clock < n
 below_in n [] l b i = absurd i
 below_in n (x ∷ ls) l b i = elim i [ inl e ↦ subst (λ v. v.clock < n) (sym e) b.0 | inr j ↦ below_in n ls l b.1 j ]
 
-number_rises : (c : ℕ) (vs : List ℕ) → Rising c (number c vs)
+number_rises : (c : ℕ) (vs : List ℕ) → Ascending c (number c vs)
 number_rises c [] = tt
 number_rises c (v ∷ vs) = (omega arith, number_rises (c + 1) vs)
 
@@ -31,10 +31,10 @@ number_one c [] l m i j e = absurd i
 number_one c (v ∷ vs) l m i j e = elim i [
   | inl p ↦ elim j [
     | inl q ↦ p ∙ sym q
-    | inr q ↦ absurd (let h = rising_in (c + 1) (number (c + 1) vs) m (number_rises (c + 1) vs) q in let lc : l.clock ≡ c = ap (λ v. v.clock) p in omega arith)
+    | inr q ↦ absurd (let h = ascending_in (c + 1) (number (c + 1) vs) m (number_rises (c + 1) vs) q in let lc : l.clock ≡ c = ap (λ v. v.clock) p in omega arith)
   ]
   | inr p ↦ elim j [
-    | inl q ↦ absurd (let h = rising_in (c + 1) (number (c + 1) vs) l (number_rises (c + 1) vs) p in let mc : m.clock ≡ c = ap (λ v. v.clock) q in omega arith)
+    | inl q ↦ absurd (let h = ascending_in (c + 1) (number (c + 1) vs) l (number_rises (c + 1) vs) p in let mc : m.clock ≡ c = ap (λ v. v.clock) q in omega arith)
     | inr q ↦ number_one (c + 1) vs l m p q e
   ]
 ]
@@ -99,7 +99,7 @@ module _ (g : App) (s : Shared) (h : Ghost) (ok : SharedOk g s h) where
 
   -- where a transaction's clocks are
   line_low : (x : Transaction) (j : ℕ) (l : Line) → In l (lines g x j) → (x.first ≤ l.clock) × (l.clock < ack x)
-  line_low x j l i = (rising_in x.first (lines g x j) l (lines_rising g x j) i, below_in (ack x) (lines g x j) l (lines_below g x j) i)
+  line_low x j l i = (ascending_in x.first (lines g x j) l (lines_ascending g x j) i, below_in (ack x) (lines g x j) l (lines_below g x j) i)
 
   -- an intent is of a transaction that began
   intent_begun : (j p c : ℕ) (i : Intent g s j p c) → In i.0 (h.begun p)

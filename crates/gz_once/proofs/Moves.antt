@@ -4,14 +4,14 @@ use Rattle.std.proofs.Common.{◌≡◌, ℕ, ◌+◌, List, [], ◌∷◌, leng
 use Rattle.std.proofs.lemmas.Bool.{cond_both, false≢true, true≢false}
 use Rattle.gz_reader.specs.Lists.{In, Begins}
 use Rattle.gz_reader.specs.Reader.{updated, acknowledgement}
-use Rattle.gz_once.specs.Applications.{App, front}
+use Rattle.gz_once.specs.Applications.{App, prefix}
 use Rattle.gz_once.specs.Log.{Transaction, ack, lines, needs, Handed, Committed, last, count}
 use Rattle.gz_once.specs.Processes.{Append, Lines, Ack, Stand, Todo, Asked, Done, Phase, Playing, Handing, Acking, Drawing, Reading, Publishing, Committing, Sending, Process, Outcome, is_done, all_in, on_fed, on_go, on_good, on_bad, on_lost, on_good_at, on_bad_at, on_lost_at, begins}
-use Rattle.gz_once.specs.Worlds.{Slot, Free, Waits, Landed, Refused, Shared, held}
+use Rattle.gz_once.specs.Worlds.{Slot, Free, Waits, Landed, Refused, Shared, append_of}
 use Rattle.gz_reader.proofs.Updates.{some_same, none_some, upd_each}
 use Rattle.gz_once.proofs.Texts.{each_at}
 use Rattle.gz_once.proofs.TxLines.{needs_less}
-use Rattle.gz_once.proofs.Texts.{front_begins}
+use Rattle.gz_once.proofs.Texts.{prefix_begins}
 use Rattle.gz_once.proofs.Logs.{Absent, Settled, since_begins, ok_begins, in_since, absent_in}
 use Rattle.gz_once.proofs.Facts.{Ghost, bound, NoAcks, HandOk, SendOk, AckStand, PubStand, Unused, Fits, PhaseOk, Draws, ProcOk, SharedOk, CommitOk, AckWaits}
 
@@ -69,8 +69,8 @@ module _ (g : App) (s : Shared) (h : Ghost) (ok : SharedOk g s h) (p : ℕ) wher
   pub absent_quiet : (a q : ℕ) → h.under q ≡ a → Absent a s.log → NoAcks s q
   absent_quiet a q u n i j c e = let w = ack_author i j a c q u e in absent_in a s.log w.0 n w.1 w.2
 
-  pub fed_ok : (q : Process) (n : ℕ) (f : Phase) → q.phase ≡ f → Draws s h p q.author q.producer → PhaseOk g s h q f → ProcOk g s h p (on_fed q (front n s.log) f).proc
-  fed_ok q n Playing e d o = made (record q { text = front n s.log }) Playing e d (front_begins n s.log, o.1)
+  pub fed_ok : (q : Process) (n : ℕ) (f : Phase) → q.phase ≡ f → Draws s h p q.author q.producer → PhaseOk g s h q f → ProcOk g s h p (on_fed q (prefix n s.log) f).proc
+  fed_ok q n Playing e d o = made (record q { text = prefix n s.log }) Playing e d (prefix_begins n s.log, o.1)
   fed_ok q n f e d o = made q f e d o
 
   settles : (q : Process) (l : Option Transaction) → all_in g q.outs l ≡ true → ((j : ℕ) → AckStand g s l j (q.outs j)) → (x : Transaction) → l ≡ Some x → Settled g s.outs x
@@ -163,7 +163,7 @@ module _ (g : App) (s : Shared) (h : Ghost) (ok : SharedOk g s h) (p : ℕ) wher
       Draws s h p q.author q.producer → PhaseOk g s h q f → ProcOk g s h p (on_good_at q j f).proc
   good_at_ok q j n a Acking e b w d o =
       let k : AckStand g s (last q.text) j (Asked n) = subst (AckStand g s (last q.text) j) b (o.3 j) in
-      let m : a ≡ Ack j (k.0).producer (ack k.0) = some_same (sym (ap held w) ∙ k.3) in
+      let m : a ≡ Ack j (k.0).producer (ack k.0) = some_same (sym (ap append_of w) ∙ k.3) in
       let l : In (acknowledgement (k.0).producer (ack k.0)) (s.outs j) = ok.landed n (Ack j (k.0).producer (ack k.0)) (w ∙ ap Landed m) in
       made (record q { outs = updated q.outs j Done }) Acking e d (
         o.0,
@@ -174,7 +174,7 @@ module _ (g : App) (s : Shared) (h : Ghost) (ok : SharedOk g s h) (p : ℕ) wher
       )
   good_at_ok q j n a (Publishing x) e b w d o =
       let k : PubStand g s q x j (Asked n) = subst (PubStand g s q x j) b (o.4 j) in
-      let m : a ≡ Lines j q.producer (lines g x j) = some_same (sym (ap held w) ∙ k.0) in
+      let m : a ≡ Lines j q.producer (lines g x j) = some_same (sym (ap append_of w) ∙ k.0) in
       made (record q { outs = updated q.outs j Done }) (Publishing x) e d (
         o.0,
         o.1,

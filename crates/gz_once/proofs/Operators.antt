@@ -20,9 +20,9 @@ in_two : {A : Type 0} (xs ys : List A) (x : A) → In x (xs ++ ys) → (In x xs)
 in_two [] ys x i = inr i
 in_two (y ∷ xs) ys x i = elim i [ inl e ↦ inl (inl e) | inr j ↦ elim (in_two xs ys x j) [ inl k ↦ inl (inr k) | inr k ↦ inr k ] ]
 
-in_front : {A : Type 0} (xs ys : List A) (x : A) → In x xs → In x (xs ++ ys)
-in_front [] ys x i = absurd i
-in_front (y ∷ xs) ys x i = elim i [ inl e ↦ inl e | inr j ↦ inr (in_front xs ys x j) ]
+in_prefix : {A : Type 0} (xs ys : List A) (x : A) → In x xs → In x (xs ++ ys)
+in_prefix [] ys x i = absurd i
+in_prefix (y ∷ xs) ys x i = elim i [ inl e ↦ inl e | inr j ↦ inr (in_prefix xs ys x j) ]
 
 pub fenced_lands_nothing : (g : App) (es later : List Event) (a : ℕ) → IsFenced a (run g es start).shared → LandsNothing a (run g es start).shared (run g (es ++ later) start).shared
 fenced_lands_nothing g es later a f e is i =
@@ -33,7 +33,7 @@ fenced_lands_nothing g es later a f e is i =
     append_assoc new.0 f.above (Handed f.other f.number ∷ f.below) ∙ ap (λ v. new.0 ++ v) f.is_log ∙ new.1 in
     let k : Fenced t = fenced g (es ++ later) in
     elim (in_two new.0 s.log e (subst (In e) (sym new.1) i)) [
-      | inl j ↦ absurd (let h = f.handed in k.after (new.0 ++ f.above) f.below f.other f.number split e h.0 (in_front new.0 f.above e j) h.1 (is ∙ sym h.2))
+      | inl j ↦ absurd (let h = f.handed in k.after (new.0 ++ f.above) f.below f.other f.number split e h.0 (in_prefix new.0 f.above e j) h.1 (is ∙ sym h.2))
       | inr j ↦ j
     ]
 

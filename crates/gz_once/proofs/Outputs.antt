@@ -7,11 +7,11 @@ use Rattle.gz_reader.specs.Reader.{Line, Message, Rest, read, acknowledgement, p
 use Rattle.gz_once.specs.Applications.{App, values_to}
 use Rattle.gz_once.specs.Log.{Transaction, ack, lines, Entry, Handed, Committed, last}
 use Rattle.gz_once.specs.Processes.{Append, Handoff, Commit, Lines, Ack, Process}
-use Rattle.gz_once.specs.Worlds.{Waits, Landed, Shared, put, mark, held}
+use Rattle.gz_once.specs.Worlds.{Waits, Landed, Shared, put, mark, append_of}
 use Rattle.gz_once.proofs.Facts.{want, before}
 use Rattle.gz_reader.proofs.Updates.{some_same, none_some, upd_here, upd_other, upd_each}
-use Rattle.gz_reader.proofs.Appends.{Below, Rising, below_up, rising_down, above_le, below_above, low_lines, high_lines, none_up_to, pour_other, pour_here, pour_accepted, pour_in, pour_from, raise_le, raise_high, raise_low, ack_next, own_join, up_to_by}
-use Rattle.gz_once.proofs.TxLines.{lines_rising, lines_below, tx_released}
+use Rattle.gz_reader.proofs.Appends.{Below, Ascending, below_up, ascending_down, above_le, below_above, low_lines, high_lines, none_up_to, pour_other, pour_here, pour_accepted, pour_in, pour_from, raise_le, raise_high, raise_low, ack_next, own_join, up_to_by}
+use Rattle.gz_once.proofs.TxLines.{lines_ascending, lines_below, tx_released}
 use Rattle.gz_once.proofs.Logs.{Settled, log_up, in_settled, settled_up}
 use Rattle.gz_once.proofs.Facts.{Ghost, cur, bound, seen, NoAcks, Stock, RestOk, OutOk, LinesWait, AckWaits, WaitsOk, LandedOk, ProcOk, SharedOk, TextAs, Known}
 use Rattle.gz_once.specs.Theorem.{Intent}
@@ -46,7 +46,7 @@ module _ (g : App) (s : Shared) (h : Ghost) (ok : SharedOk g s h) (i j p : ℕ) 
   fills r z c steps w = elim w [
     | inl b ↦ inl (low_lines r ls (elim c [
       | inl n ↦ subst (λ v. Below (above r.next v) ls) (sym n) b
-      | inr y ↦ (let l = above_le r.next r.chain (subst (Rising r.next) (sym y.2) (rising_down r.next (y.0).first (lines g y.0 j) y.3 (lines_rising g y.0 j))) in below_up r.next (above r.next r.chain) ls l b)
+      | inr y ↦ (let l = above_le r.next r.chain (subst (Ascending r.next) (sym y.2) (ascending_down r.next (y.0).first (lines g y.0 j) y.3 (lines_ascending g y.0 j))) in below_up r.next (above r.next r.chain) ls l b)
     ]))
     | inr y ↦ elim c [
       | inl n ↦ elim (steps y.0 y.1) [
@@ -63,13 +63,13 @@ module _ (g : App) (s : Shared) (h : Ghost) (ok : SharedOk g s h) (i j p : ℕ) 
       | inr v ↦ inl (low_lines r ls
           (let same : v.0 ≡ y.0 = some_same (sym v.1 ∙ y.1) in
           let all : r.chain ≡ ls = v.2 ∙ ap (λ q. lines g q j) same ∙ sym y.2 in
-          let up : Rising r.next r.chain = subst (Rising r.next) (sym v.2) (rising_down r.next (v.0).first (lines g v.0 j) v.3 (lines_rising g v.0 j)) in
+          let up : Ascending r.next r.chain = subst (Ascending r.next) (sym v.2) (ascending_down r.next (v.0).first (lines g v.0 j) v.3 (lines_ascending g v.0 j)) in
           subst (Below (above r.next r.chain)) all (below_above r.next r.chain up)))
     ]
   ]
     where
       grows : (y : (y : Transaction) × (cur h p ≡ Some y) × (ls ≡ lines g y j)) → r.next ≤ (y.0).first → r.chain ≡ [] → take_lines r ls ≡ record { next = r.next; chain = r.chain ++ ls }
-      grows y l n = high_lines r ls (subst (λ v. Rising (above r.next v) ls) (sym n) (subst (Rising r.next) (sym y.2) (rising_down r.next (y.0).first (lines g y.0 j) l (lines_rising g y.0 j))))
+      grows y l n = high_lines r ls (subst (λ v. Ascending (above r.next v) ls) (sym n) (subst (Ascending r.next) (sym y.2) (ascending_down r.next (y.0).first (lines g y.0 j) l (lines_ascending g y.0 j))))
 
   changed_here : (b : ℕ) → Changed j b (seen s j b) ((read (pour p ls (s.outs j))).rest b)
   changed_here b = elim (cases_eq b p) [
@@ -120,18 +120,18 @@ module _ (g : App) (s : Shared) (h : Ghost) (ok : SharedOk g s h) (i j p : ℕ) 
     where
       filled : (y : Transaction) → cur h p ≡ Some y → ls ≡ lines g y j → (seen s j p).next ≤ y.first → (take_lines (seen s j p) ls).chain ≡ lines g y j
       filled y c q l = let r = seen s j p in let w : LinesWait g s h j p ls = ok.waits i x e in elim ((ok.rests j p w.own).chain) [
-        | inl n ↦ ap (λ (q : Rest). q.chain) (high_lines r ls (subst (λ v. Rising (above r.next v) ls) (sym n) (subst (Rising r.next) (sym q) (rising_down r.next y.first (lines g y j) l (lines_rising g y j)))))
+        | inl n ↦ ap (λ (q : Rest). q.chain) (high_lines r ls (subst (λ v. Ascending (above r.next v) ls) (sym n) (subst (Ascending r.next) (sym q) (ascending_down r.next y.first (lines g y j) l (lines_ascending g y j)))))
             ∙ ap (λ v. v ++ ls) n ∙ q
         | inr v ↦ (let same : v.0 ≡ y = some_same (sym v.1 ∙ c) in
             let all : r.chain ≡ ls = v.2 ∙ ap (λ q. lines g q j) same ∙ sym q in
-            let up : Rising r.next r.chain = subst (Rising r.next) (sym v.2) (rising_down r.next (v.0).first (lines g v.0 j) v.3 (lines_rising g v.0 j)) in
+            let up : Ascending r.next r.chain = subst (Ascending r.next) (sym v.2) (ascending_down r.next (v.0).first (lines g v.0 j) v.3 (lines_ascending g v.0 j)) in
             ap (λ (q : Rest). q.chain) (low_lines r ls (subst (Below (above r.next r.chain)) all (below_above r.next r.chain up))) ∙ all ∙ q)
       ]
 
   lines_kept : (a b : ℕ) → Kept g s t h h a b
   lines_kept a b = judged_kept g s h ok i x e (Landed x) (judged_landed x) s.log s.register t.outs h.pending a b (inl refl) ins
       (λ u n y c q z st. lines_stock y c b q z st) (λ u n y c q l. le_on c b y.first l)
-      (λ u n y c q z l d. landed_stock y c b q z l (some_same (ap held d))) refl (λ z. z)
+      (λ u n y c q z l d. landed_stock y c b q z l (some_same (ap append_of d))) refl (λ z. z)
 
   lines_waits : (m : ℕ) (y : Append) → t.slots m ≡ Waits y → WaitsOk g s h m y → WaitsOk g t h m y
   lines_waits m (Handoff c n nn) z v = record { pending = v.pending; pos = v.pos; drawn = v.drawn; taken = v.taken; absent = v.absent; base = v.base }
@@ -188,14 +188,14 @@ module _ (g : App) (s : Shared) (h : Ghost) (ok : SharedOk g s h) (i j p : ℕ) 
       })
     ];
     waits = λ m y z. lines_waits m y z (ok.waits m y (still_waits g s h ok i x e (Landed x) (judged_landed x) m y z).1);
-    landed = λ m y. upd_each s.slots i (Landed x) (λ n r. r ≡ Landed y → LandedOk t y) (λ z. subst (LandedOk t) (some_same (ap held z)) tt) m (λ _ z. landed_up y (ok.landed m y z));
+    landed = λ m y. upd_each s.slots i (Landed x) (λ n r. r ≡ Landed y → LandedOk t y) (λ z. subst (LandedOk t) (some_same (ap append_of z)) tt) m (λ _ z. landed_up y (ok.landed m y z));
     frees = ok.frees;
     fresh = fresh_on g s h ok i x e (Landed x) (judged_landed x);
     register = ok.register;
     spoken = spoken_up g s t h h (λ y z. z) (λ p y z. z) (λ m y z. inl (still_held g s h ok i x e (Landed x) (judged_landed x) m y z))
         (λ a m. upd_each s.outs j (pour p ls (s.outs j)) (λ n u. In m u → s.own m.producer ≡ true → (In m (s.outs n) × (s.own m.producer ≡ true)) ⊎ TextAs g t h n m) (λ z y. elim (pour_from p ls (s.outs j) m z) [
           | inl q ↦ inl (q, y)
-          | inr q ↦ (let w = (ok.spoken).slots i x (ap held e) in
+          | inr q ↦ (let w = (ok.spoken).slots i x (ap append_of e) in
               inr (inl (w.0, subst (λ v. In w.0 (h.begun v)) (sym q.0) w.1, q.1, subst (In (record { clock = m.clock; value = m.value })) w.2 q.2)))
         ]) a (λ _ z y. inl (z, y)))
         (λ y z. inl z) ok.spoken;
@@ -247,7 +247,7 @@ module _ (g : App) (s : Shared) (h : Ghost) (ok : SharedOk g s h) (i j p c : ℕ
   nothing : c < old.next → up_to p c old.chain ≡ []
   nothing l = elim ((ok.rests j p aown).chain) [
     | inl n ↦ ap (up_to p c) n
-    | inr n ↦ ap (up_to p c) n.2 ∙ none_up_to p c old.next (lines g n.0 j) (rising_down old.next (n.0).first (lines g n.0 j) n.3 (lines_rising g n.0 j)) l
+    | inr n ↦ ap (up_to p c) n.2 ∙ none_up_to p c old.next (lines g n.0 j) (ascending_down old.next (n.0).first (lines g n.0 j) n.3 (lines_ascending g n.0 j)) l
   ]
 
   there : (a b : ℕ) → ((a ≡ j) × (b ≡ p) → ⊥) → seen at a b ≡ seen s a b
@@ -287,7 +287,7 @@ module _ (g : App) (s : Shared) (h : Ghost) (ok : SharedOk g s h) (i j p c : ℕ
   ack_kept a b = judged_kept g s h ok i ax e (Landed ax) (judged_landed ax) s.log s.register at.outs h.pending a b (inl refl) ack_ins
       (λ u n y v q z st m. let r = st m in let d = there v y.producer (λ w. not_it b n (sym z ∙ w.1)) in (ap (λ (x : Rest). x.chain) d ∙ r.0, subst (λ x. x.next ≤ y.first) (sym d) r.1))
       (λ u n y v q l. subst (λ (x : Rest). x.next ≤ y.first) (sym (there v b (λ w. not_it b n w.1))) l)
-      (λ u n y v q z l d. absurd (let d' : Ack j p c ≡ Lines v b (lines g y v) = some_same (ap held d) in cc)) refl (λ z. z)
+      (λ u n y v q z l d. absurd (let d' : Ack j p c ≡ Lines v b (lines g y v) = some_same (ap append_of d) in cc)) refl (λ z. z)
 
   ack_waits : (m : ℕ) (y : Append) → at.slots m ≡ Waits y → WaitsOk g s h m y → WaitsOk g at h m y
   ack_waits m (Handoff b n nn) z v = record { pending = v.pending; pos = v.pos; drawn = v.drawn; taken = v.taken; absent = v.absent; base = v.base }
@@ -394,13 +394,13 @@ module _ (g : App) (s : Shared) (h : Ghost) (ok : SharedOk g s h) (i j p c : ℕ
     rests = ack_rest;
     outs = λ a. elim (cases_eq a j) [ inl z ↦ subst (OutOk g at h) (sym z) (out_here (ok.outs j)) | inr z ↦ out_there a z ];
     waits = λ m y z. ack_waits m y z (ok.waits m y (still_waits g s h ok i ax e (Landed ax) (judged_landed ax) m y z).1);
-    landed = λ m y. upd_each s.slots i (Landed ax) (λ n r. r ≡ Landed y → LandedOk at y) (λ z. subst (LandedOk at) (some_same (ap held z)) ack_here) m (λ _ z. ack_landed y (ok.landed m y z));
+    landed = λ m y. upd_each s.slots i (Landed ax) (λ n r. r ≡ Landed y → LandedOk at y) (λ z. subst (LandedOk at) (some_same (ap append_of z)) ack_here) m (λ _ z. ack_landed y (ok.landed m y z));
     frees = ok.frees;
     fresh = fresh_on g s h ok i ax e (Landed ax) (judged_landed ax);
     register = ok.register;
     spoken = spoken_up g s at h h (λ y z. z) (λ p y z. z) (λ m y z. inl (still_held g s h ok i ax e (Landed ax) (judged_landed ax) m y z))
         (λ a m. upd_each s.outs j (acknowledgement p c ∷ s.outs j) (λ n u. In m u → s.own m.producer ≡ true → (In m (s.outs n) × (s.own m.producer ≡ true)) ⊎ TextAs g at h n m) (λ z y. elim z [
-          | inl q ↦ inr (inr (ap (λ v. v.kind) q, ap (λ v. v.value) q, subst (λ v. Intent g at j v.producer v.clock) (sym q) ((ok.spoken).slots i ax (ap held e))))
+          | inl q ↦ inr (inr (ap (λ v. v.kind) q, ap (λ v. v.value) q, subst (λ v. Intent g at j v.producer v.clock) (sym q) ((ok.spoken).slots i ax (ap append_of e))))
           | inr q ↦ inl (q, y)
         ]) a (λ _ z y. inl (z, y)))
         (λ y z. inl z) ok.spoken;

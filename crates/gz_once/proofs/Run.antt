@@ -4,7 +4,7 @@ use Rattle.std.proofs.lemmas.Bool.{cond_both, eqb-true, leb-true, ltb-true, and_
 use Rattle.std.specs.Prelude.{nat_lt, ◌||◌, nat_le, ◌&&◌, not}
 use Rattle.gz_once.proofs.Others.{other_shared, other_proc, skip_shared, skip_proc}
 use Rattle.gz_reader.specs.Reader.{updated}
-use Rattle.gz_once.specs.Applications.{App, front, parts}
+use Rattle.gz_once.specs.Applications.{App, prefix, parts}
 use Rattle.gz_once.specs.Log.{Transaction, Entry, author_of, last, offsets_of, end_of}
 use Rattle.gz_once.specs.Processes.{Append, Handoff, Commit, Lines, Ack, Stand, Todo, Asked, Done, Phase, Playing, Handing, Acking, Publishing, Sending, Process, Outcome, Good, Bad, Good_at, Bad_at, on_fed, on_go, on_good, on_bad, on_lost, on_good_at, on_bad_at, on_lost_at, all_in, begins}
 use Rattle.gz_once.specs.Worlds.{Slot, Free, Waits, Landed, Refused, World, lands, put, mark, land, refuse, moved, Event, Grow, Other, Skip, Feed, Draw, Take, Poll, Poll_at, Next, Land, Reset, Refuse, Reply, Reply_at, Lose, Lose_at, Consume, Restart, outstanding, answered, reply, reply_at, lose_at, can_read, happens, run, start}
@@ -148,7 +148,7 @@ event_ok g w i (Other j m) = cond_both (not (w.shared.own m.producer) && (nat_le
     (λ _. i)
 event_ok g w i (Skip d) = cond_both (nat_lt w.shared.drawn d) _ _ (Invariant g)
     (λ c. let l = ltb-true w.shared.drawn d c in record { h = i.h; shared = skip_shared g w.shared i.h i.shared d l; procs = λ p. skip_proc g w.shared i.h i.shared d l p (w.procs p) (i.procs p) }) (λ _. i)
-event_ok g w i (Feed p n) = let q = w.procs p in let o = i.procs p in moves_out g w i p (on_fed q (front n w.shared.log) q.phase) (fed_none q (front n w.shared.log) q.phase)
+event_ok g w i (Feed p n) = let q = w.procs p in let o = i.procs p in moves_out g w i p (on_fed q (prefix n w.shared.log) q.phase) (fed_none q (prefix n w.shared.log) q.phase)
     (fed_ok g w.shared i.h i.shared p q n q.phase refl o.draws o.phase)
 event_ok g w i (Draw d) = cond_both (nat_lt w.shared.drawn d && not (g.foreign d)) _ _ (Invariant g)
     (λ c. let r = and_parts (nat_lt w.shared.drawn d) (not (g.foreign d)) c in let l = ltb-true w.shared.drawn d r.0 in let f = not-true (g.foreign d) r.1 in

@@ -7,7 +7,7 @@ use Rattle.gz_reader.specs.Reader.{Message, updated}
 use Rattle.gz_once.specs.Applications.{App}
 use Rattle.gz_once.specs.Log.{Transaction, ack, lines, needs, Committed, author_of, last, count, end_of}
 use Rattle.gz_once.specs.Processes.{Append, Handoff, Commit, Lines, Ack, Stand, Todo, Asked, Done, Phase, Playing, Handing, Acking, Publishing, Committing, Sending, Process, still, says, on_ask, acks, publishes, on_ask_at}
-use Rattle.gz_once.specs.Worlds.{Slot, Free, Waits, Landed, Shared, World, sent, moved, held}
+use Rattle.gz_once.specs.Worlds.{Slot, Free, Waits, Landed, Shared, World, sent, moved, append_of}
 use Rattle.gz_reader.proofs.Updates.{some_same, none_some, upd_here, upd_other, upd_each}
 use Rattle.gz_reader.proofs.Appends.{ack_next}
 use Rattle.gz_once.proofs.Logs.{Absent, Up, Follows, LastSettled, since_begins, since_same, in_begins, absent_in, last_in, foreign, same_last}
@@ -18,8 +18,8 @@ use Rattle.gz_once.proofs.Moves.{made, waits_landed}
 pub up_refl : (g : App) (t : ℕ → List Message) → Up g t t
 up_refl g t = record { len = λ k. omega arith; same = λ n from to w. refl }
 
-pub free_held : {v : Slot} {x : Append} → v ≡ Free → held v ≡ Some x → ⊥
-free_held {v = v} {x = x} e f = none_some (sym (ap held e) ∙ f)
+pub free_held : {v : Slot} {x : Append} → v ≡ Free → append_of v ≡ Some x → ⊥
+free_held {v = v} {x = x} e f = none_some (sym (ap append_of e) ∙ f)
 
 -- only its process changes
 pub moves : (g : App) (w : World) (i : Invariant g w) (p : ℕ) (q : Process) → ProcOk g w.shared i.h p q → Invariant g (moved w p (still q))
@@ -38,7 +38,7 @@ pub record Sendable (g : App) (s : Shared) (h : Ghost) (a : ℕ) (x : Append) (f
 
 module _ (g : App) (s : Shared) (h : Ghost) (ok : SharedOk g s h) where
   -- the appends that were sent before stay
-  old_slot : (x : Append) (i : ℕ) (y : Append) → held (s.slots i) ≡ Some y → (sent s (Some x)).slots i ≡ s.slots i
+  old_slot : (x : Append) (i : ℕ) (y : Append) → append_of (s.slots i) ≡ Some y → (sent s (Some x)).slots i ≡ s.slots i
   old_slot x i y e = upd_other s.slots s.count (Waits x) i (λ z. free_held (ap s.slots z ∙ ok.fresh s.count (omega arith)) e)
 
   pub send_kept : (x : Append) (f : ℕ → Option ℕ) (a p : ℕ) → f a ≡ h.pending a → (author_of s.log ≡ a → (j c : ℕ) → x ≡ Ack j p c → ⊥) →
@@ -47,12 +47,12 @@ module _ (g : App) (s : Shared) (h : Ghost) (ok : SharedOk g s h) where
     log = inl refl;
     outs = λ j m i. i;
     sources = up_refl g s.sources;
-    holds = λ i y z. ap held (old_slot x i y z) ∙ z;
-    landed = λ i y z. old_slot x i y (ap held z) ∙ z;
-    refused = λ i y z. old_slot x i y (ap held z) ∙ z;
-    main = λ i y z _. old_slot x i y (ap held z) ∙ z;
+    holds = λ i y z. ap append_of (old_slot x i y z) ∙ z;
+    landed = λ i y z. old_slot x i y (ap append_of z) ∙ z;
+    refused = λ i y z. old_slot x i y (ap append_of z) ∙ z;
+    main = λ i y z _. old_slot x i y (ap append_of z) ∙ z;
     acks = λ u i j c. upd_each s.slots s.count (Waits x) (λ m v. v ≡ Waits (Ack j p c) → s.slots m ≡ Waits (Ack j p c))
-        (λ z. absurd (n u j c (let y : Waits x ≡ Waits (Ack j p c) = z in some_same (ap held y)))) i (λ _ z. z);
+        (λ z. absurd (n u j c (let y : Waits x ≡ Waits (Ack j p c) = z in some_same (ap append_of y)))) i (λ _ z. z);
     stock = λ u q y j z d b. b;
     low = λ u q y j z b. b;
     lines = λ u q y j i z d b. upd_each s.slots s.count (Waits x) (λ m v. v ≡ Landed (Lines j p (lines g y j)) → (s.slots m ≡ Landed (Lines j p (lines g y j))) ⊎ Stock g (sent s (Some x)) y j)
@@ -98,17 +98,17 @@ module _ (g : App) (s : Shared) (h : Ghost) (ok : SharedOk g s h) where
           low = o.low;
           current = o.current;
           sole = λ i c. upd_each s.slots s.count (Waits x) (λ m r. r ≡ Waits (Ack j (o.x).producer c) → c ≡ ack o.x)
-              (λ z. v.is_last j (o.x).producer c (some_same (ap held z)) o.x o.is_last refl) i (λ _ z. o.sole i c z);
+              (λ z. v.is_last j (o.x).producer c (some_same (ap append_of z)) o.x o.is_last refl) i (λ _ z. o.sole i c z);
         })
       ];
       waits = λ i y. upd_each s.slots s.count (Waits x) (λ m r. t.slots m ≡ r → r ≡ Waits y → WaitsOk g t k m y)
-          (λ _ z. subst (WaitsOk g t k s.count) (some_same (ap held z)) v.waits) i (λ _ q z. old_waits i y (q ∙ z) (ok.waits i y z)) refl;
+          (λ _ z. subst (WaitsOk g t k s.count) (some_same (ap append_of z)) v.waits) i (λ _ q z. old_waits i y (q ∙ z) (ok.waits i y z)) refl;
       landed = λ i y. upd_each s.slots s.count (Waits x) (λ m r. r ≡ Landed y → LandedOk t y) (λ z. absurd (waits_landed z)) i (λ _ z. landed_same y (ok.landed i y z));
       fresh = λ i l. upd_other s.slots s.count (Waits x) i (λ z. omega arith) ∙ ok.fresh i (omega arith);
       register = ok.register;
       history = ok.history;
       spoken = spoken_up g s t h k (λ y z. z) (λ p y z. z)
-          (λ i y. upd_each s.slots s.count (Waits x) (λ m r. held r ≡ Some y → (held (s.slots m) ≡ Some y) ⊎ SpokenAs g t k y)
+          (λ i y. upd_each s.slots s.count (Waits x) (λ m r. append_of r ≡ Some y → (append_of (s.slots m) ≡ Some y) ⊎ SpokenAs g t k y)
           (λ z. inr (subst (SpokenAs g t k) (some_same z) (spoken_as g s t h k (λ y z. z) (λ p y z. z) x v.said))) i (λ _ z. inl z))
           (λ j m z w. inl (z, w)) (λ y z. inl z) ok.spoken;
       undrawn = λ p l. let u = ok.undrawn p l in (u.0, v.low p l, u.2);
@@ -282,7 +282,7 @@ module _ (g : App) (w : World) (i : Invariant g w) (p : ℕ) where
         n.2,
         n.3,
         λ a. upd_each q.outs j (Asked s.count) (PubStand g t q y)
-            (ap held (here x ∙ is), λ u z. absurd (waits_landed (sym (here x) ∙ z))) a (λ _. n.4 a),
+            (ap append_of (here x ∙ is), λ u z. absurd (waits_landed (sym (here x) ∙ z))) a (λ _. n.4 a),
         n.5,
       )))
       (λ _. moves g w i p q (i.procs p))
@@ -332,7 +332,7 @@ module _ (g : App) (w : World) (i : Invariant g w) (p : ℕ) where
           l,
           record { since = r.since; author = r.author; pending = r.pending },
           record { own = own.own; next = own.next },
-          λ a. upd_each q.outs j (Asked s.count) (AckStand g t (last q.text)) (y, e, need, ap held (here x)) a (λ _. stands x (last q.text) a (q.outs a) (o.3 a)),
+          λ a. upd_each q.outs j (Asked s.count) (AckStand g t (last q.text)) (y, e, need, ap append_of (here x)) a (λ _. stands x (last q.text) a (q.outs a) (o.3 a)),
           λ f u n a c. upd_each s.slots s.count (Waits x) (λ m z. z ≡ Waits (Ack a q.producer c) → updated q.outs j (Asked s.count) a ≡ Asked m)
               (λ z. let aj : a ≡ j = (let z' : Waits (Ack j y.producer (ack y)) ≡ Waits (Ack a q.producer c) = z in cc) in
               ap (updated q.outs j (Asked s.count)) aj ∙ upd_here q.outs j (Asked s.count)) n
@@ -347,7 +347,7 @@ module _ (g : App) (w : World) (i : Invariant g w) (p : ℕ) where
 
       stands : (x : Append) (l : Option Transaction) (a : ℕ) (v : Stand) → AckStand g s l a v → AckStand g (sent s (Some x)) l a v
       stands x l a Todo k = tt
-      stands x l a (Asked n) k = (k.0, k.1, k.2, ap held (old_slot g s h i.shared x n _ k.3) ∙ k.3)
+      stands x l a (Asked n) k = (k.0, k.1, k.2, ap append_of (old_slot g s h i.shared x n _ k.3) ∙ k.3)
       stands x l a Done k = k
   acks_ok j Todo None b e ph d o = moves g w i p q (i.procs p)
   acks_ok j (Asked n) u b e ph d o = moves g w i p q (i.procs p)

@@ -3,20 +3,17 @@ use Rattle.std.proofs.Common.{◌≡◌, ℕ, zero, suc, ◌<◌, ◌≤◌, Lis
 use Rattle.std.proofs.lemmas.Bool.{cond_both, cases_eq, and_parts, leb-true, leb-false}
 use Rattle.gz_reader.specs.Reader.{Message, updated}
 use Rattle.gz_reader.specs.Reader.{committed}
-use Rattle.gz_once.specs.Applications.{App, front, part, parts, each_below, reach, upto}
+use Rattle.gz_once.specs.Applications.{App, prefix, part, parts, each_below, reach, upto}
 use Rattle.gz_reader.specs.Lists.{Begins}
 use Rattle.gz_reader.proofs.Updates.{upd_each}
 
-pub front_begins : {A : Type 0} (n : ℕ) (xs : List A) → Begins (front n xs) xs
-front_begins n [] = refl
-front_begins n (x ∷ xs) = cond_both (leb (length (x ∷ xs)) n) _ _ (λ r. Begins r (x ∷ xs)) (λ _. inl refl) (λ _. inr (front_begins n xs))
+pub prefix_begins : {A : Type 0} (n : ℕ) (xs : List A) → Begins (prefix n xs) xs
+prefix_begins n [] = refl
+prefix_begins n (x ∷ xs) = cond_both (leb (length (x ∷ xs)) n) _ _ (λ r. Begins r (x ∷ xs)) (λ _. inl refl) (λ _. inr (prefix_begins n xs))
 
-pub front_push : {A : Type 0} (n : ℕ) (x : A) (xs : List A) → n ≤ length xs → front n (x ∷ xs) ≡ front n xs
-front_push n x xs l = cond_both (leb (length (x ∷ xs)) n) _ _ (λ r. r ≡ front n xs) (λ e. absurd (let h = leb-true (length (x ∷ xs)) n e in omega arith)) (λ _. refl)
-
-pub front_all : {A : Type 0} (n : ℕ) (xs : List A) → length xs ≤ n → front n xs ≡ xs
-front_all n [] l = refl
-front_all n (x ∷ xs) l = cond_both (leb (length (x ∷ xs)) n) _ _ (λ r. r ≡ x ∷ xs) (λ _. refl) (λ e. absurd (let h = leb-false (length (x ∷ xs)) n e in omega arith))
+pub prefix_all : {A : Type 0} (n : ℕ) (xs : List A) → length xs ≤ n → prefix n xs ≡ xs
+prefix_all n [] l = refl
+prefix_all n (x ∷ xs) l = cond_both (leb (length (x ∷ xs)) n) _ _ (λ r. r ≡ x ∷ xs) (λ _. refl) (λ e. absurd (let h = leb-false (length (x ∷ xs)) n e in omega arith))
 
 pub each_at : (n : ℕ) (f : ℕ → Bool) → each_below n f ≡ true → (k : ℕ) → k < n → f k ≡ true
 each_at zero f e k l = absurd (omega arith)

@@ -6,29 +6,29 @@ use Rattle.gz_reader.specs.Reader.{Line, up_to}
 use Rattle.gz_reader.specs.Reader.{values_of}
 use Rattle.gz_once.specs.Applications.{App, lines_to, values_to, number, goes}
 use Rattle.gz_once.specs.Log.{Transaction, ack, lines, needs, some_lines}
-use Rattle.gz_reader.proofs.Appends.{Rising, Below, rising_down}
+use Rattle.gz_reader.proofs.Appends.{Ascending, Below, ascending_down}
 
 -- the lines of a transaction
-number_rising : (c : ℕ) (vs : List ℕ) → Rising c (number c vs)
-number_rising c [] = tt
-number_rising c (v ∷ vs) = (omega arith, number_rising (c + 1) vs)
+number_ascending : (c : ℕ) (vs : List ℕ) → Ascending c (number c vs)
+number_ascending c [] = tt
+number_ascending c (v ∷ vs) = (omega arith, number_ascending (c + 1) vs)
 
 number_below : (c : ℕ) (vs : List ℕ) (n : ℕ) → c + length vs ≤ n → Below n (number c vs)
 number_below c [] n l = tt
 number_below c (v ∷ vs) n l = (omega arith, number_below (c + 1) vs n (omega arith))
 
-to_rising : (g : App) (j n : ℕ) (ls : List Line) → Rising n ls → Rising n (lines_to g j ls)
-to_rising g j n [] r = tt
-to_rising g j n (l ∷ ls) r = cond_both (goes g j l.value) _ _ (Rising n)
-    (λ _. (r.0, to_rising g j (l.clock + 1) ls r.1))
-    (λ _. rising_down n (l.clock + 1) (lines_to g j ls) (omega (arith, r.0)) (to_rising g j (l.clock + 1) ls r.1))
+to_ascending : (g : App) (j n : ℕ) (ls : List Line) → Ascending n ls → Ascending n (lines_to g j ls)
+to_ascending g j n [] r = tt
+to_ascending g j n (l ∷ ls) r = cond_both (goes g j l.value) _ _ (Ascending n)
+    (λ _. (r.0, to_ascending g j (l.clock + 1) ls r.1))
+    (λ _. ascending_down n (l.clock + 1) (lines_to g j ls) (omega (arith, r.0)) (to_ascending g j (l.clock + 1) ls r.1))
 
 to_below : (g : App) (j n : ℕ) (ls : List Line) → Below n ls → Below n (lines_to g j ls)
 to_below g j n [] b = tt
 to_below g j n (l ∷ ls) b = cond_both (goes g j l.value) _ _ (Below n) (λ _. (b.0, to_below g j n ls b.1)) (λ _. to_below g j n ls b.1)
 
-pub lines_rising : (g : App) (x : Transaction) (j : ℕ) → Rising x.first (lines g x j)
-lines_rising g x j = to_rising g j x.first (number x.first x.emitted) (number_rising x.first x.emitted)
+pub lines_ascending : (g : App) (x : Transaction) (j : ℕ) → Ascending x.first (lines g x j)
+lines_ascending g x j = to_ascending g j x.first (number x.first x.emitted) (number_ascending x.first x.emitted)
 
 pub lines_below : (g : App) (x : Transaction) (j : ℕ) → Below (ack x) (lines g x j)
 lines_below g x j = to_below g j (ack x) (number x.first x.emitted) (number_below x.first x.emitted (ack x) (omega arith))

@@ -43,9 +43,9 @@ number c [] = []
 number c (v ∷ vs) = record { clock = c; value = v } ∷ number (c + 1) vs
 
 -- the first n of a text, which is its newest first
-abbrev pub front : {A : Type 0} → ℕ → List A → List A
-front n [] = []
-front n (x ∷ xs) = if nat_le (length (x ∷ xs)) n then x ∷ xs else front n xs
+abbrev pub prefix : {A : Type 0} → ℕ → List A → List A
+prefix n [] = []
+prefix n (x ∷ xs) = if nat_le (length (x ∷ xs)) n then x ∷ xs else prefix n xs
 
 -- the end of the text of source k
 abbrev pub reach : App → ℕ → List Message → ℕ

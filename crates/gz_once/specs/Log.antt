@@ -38,10 +38,6 @@ abbrev pub by : Entry → ℕ
 by (Handed a k) = a
 by (Committed x) = x.author
 
-abbrev pub seq_of : Entry → ℕ
-seq_of (Handed a k) = k
-seq_of (Committed x) = x.seq
-
 -- an entry is one handoff, or a commit's operations
 abbrev pub operations : Entry → ℕ
 operations (Handed a k) = 1

@@ -51,8 +51,8 @@ pub record Shown : Type 0 where
   pub store : ℕ
   pub accepted : List ℕ
 
-abbrev pub shown : List Event → Shown
-shown es = let s = (run sums es start).shared in
+abbrev pub view_of : List Event → Shown
+view_of es = let s = (run sums es start).shared in
     record { log = map by s.log; store = store_of s.log; accepted = values_of s.own (committed (s.outs 0)) }
 
 -- a process is ready to read, and the source has one message of the value 5

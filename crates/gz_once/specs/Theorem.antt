@@ -6,7 +6,7 @@ use Rattle.gz_reader.specs.Reader.{values_of, Message, Continue, Acknowledge, ac
 use Rattle.gz_once.specs.Applications.{App, fold, emits, values_to, part}
 use Rattle.gz_once.specs.Log.{Transaction, ack, needs, Entry, Handed, Committed, by, author_of, last, count, offsets_of, accepted, store_of, read_order, consumed}
 use Rattle.gz_once.specs.Processes.{Append, Lines, Ack}
-use Rattle.gz_once.specs.Worlds.{World, Shared, held}
+use Rattle.gz_once.specs.Worlds.{World, Shared, append_of}
 
 -- Every record of the log is accepted, the register is absent or names the author in force, and behind a handoff stands nothing of an author from before it.
 pub record Fenced (s : Shared) : Type 0 where
@@ -62,7 +62,7 @@ Carries _ j m = ⊥
 
 -- the message stands in the output, or was sent to it, wherever it now is
 abbrev pub Speaks : Shared → ℕ → Message → Type 0
-Speaks s j m = In m (s.outs j) ⊎ ((i : ℕ) × (a : Append) × (held (s.slots i) ≡ Some a) × Carries a j m)
+Speaks s j m = In m (s.outs j) ⊎ ((i : ℕ) × (a : Append) × (append_of (s.slots i) ≡ Some a) × Carries a j m)
 
 abbrev pub OfCommits : App → Shared → Type 0
 OfCommits g s = (j : ℕ) (m : Message) → Speaks s j m → s.own m.producer ≡ true → m.kind ≡ Acknowledge → Intent g s j m.producer m.clock

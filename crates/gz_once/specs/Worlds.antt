@@ -5,7 +5,7 @@
 --   what is read of them is a prefix of their text (`Feed`, `can_read`).
 use Rattle.std.specs.Prelude.{ℕ, ◌+◌, ◌==◌, nat_le, List, [], ◌∷◌, if◌then◌else◌, Option, Some, None, Bool, true, false, ◌&&◌, not, nat_lt, ◌||◌}
 use Rattle.gz_reader.specs.Reader.{Message, updated, pour, acknowledgement}
-use Rattle.gz_once.specs.Applications.{App, front, parts, each_below, reach}
+use Rattle.gz_once.specs.Applications.{App, prefix, parts, each_below, reach}
 use Rattle.gz_once.specs.Log.{Entry, Handed, Committed, last, offsets_of, end_of}
 use Rattle.gz_once.specs.Processes.{Append, Handoff, Commit, Lines, Ack, Stand, Asked, Phase, Handing, Sending, Process, Item, Extent, Fed, Drew, Ask, Ask_at, Go, Good, Bad, Lost, Good_at, Bad_at, Lost_at, Consumed, Begin, Outcome, step, begins}
 
@@ -134,7 +134,7 @@ abbrev pub happens : App → World → Event → World
 happens g w (Grow k m) = record w { shared = record w.shared { sources = updated w.shared.sources k (m ∷ w.shared.sources k) } }
 happens g w (Other j m) = if not (w.shared.own m.producer) && (nat_le m.producer w.shared.drawn || g.foreign m.producer) then record w { shared = record w.shared { outs = updated w.shared.outs j (m ∷ w.shared.outs j) } } else w
 happens g w (Skip d) = if nat_lt w.shared.drawn d then record w { shared = record w.shared { drawn = d } } else w
-happens g w (Feed p n) = does g w p (Fed (front n w.shared.log))
+happens g w (Feed p n) = does g w p (Fed (prefix n w.shared.log))
 happens g w (Draw d) = if nat_lt w.shared.drawn d && not (g.foreign d) then record w { shared = record w.shared { drawn = d; own = updated w.shared.own d true; free = updated w.shared.free d true } } else w
 happens g w (Take p d) = if w.shared.free d then does g (record w { shared = record w.shared { free = updated w.shared.free d false } }) p (Drew d) else w
 happens g w (Poll p) = does g w p Ask
@@ -161,8 +161,8 @@ start = record {
 }
 
 -- what was sent, wherever it now is
-abbrev pub held : Slot → Option Append
-held Free = None
-held (Waits x) = Some x
-held (Landed x) = Some x
-held (Refused x) = Some x
+abbrev pub append_of : Slot → Option Append
+append_of Free = None
+append_of (Waits x) = Some x
+append_of (Landed x) = Some x
+append_of (Refused x) = Some x

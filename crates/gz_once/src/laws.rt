@@ -8,7 +8,8 @@ ghost use Rattle.gz_once.specs.Worlds.{Event, run, start};
 /// The log, the outputs and the sources only grow.
 #[tactic(auto, using(crate::proofs::Grows::grows))]
 pub fn journals_only_grow()
-    ensures { (g : App) (events later : List Event) → Grown (run g events start).shared (run g (events ++ later) start).shared }
+    ensures { (g : App) (events later : List Event) →
+        Grown (run g events start).shared (run g (events ++ later) start).shared }
 {}
 
 /// The log's register is absent or names the author in force, every record of the log is accepted, so that each commit

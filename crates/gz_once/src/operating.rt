@@ -6,7 +6,8 @@ ghost use Rattle.gz_once.specs.Worlds.{Event, run, start};
 
 /// A process that was fenced never lands a commit again, whatever it sent before or sends later.
 pub fn a_fenced_process_never_lands_again()
-    ensures { (g : App) (events later : List Event) (author : ℕ) → IsFenced author (run g events start).shared →
+    ensures { (g : App) (events later : List Event) (author : ℕ) →
+        IsFenced author (run g events start).shared →
         LandsNothing author (run g events start).shared (run g (events ++ later) start).shared }
 {}
 

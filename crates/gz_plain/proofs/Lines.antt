@@ -25,7 +25,7 @@ one_step b (x ∷ xs) true o content rest is = absurd (some_none is)
 one_step b bs false None content rest is = absurd (some_none is)
 one_step b bs false (Some c) content rest is = rw (rest c refl) refl
 
--- a line with a content in front of its newline is one line
+-- a line with a content before its newline is one line
 pub one_line : (line content : List ℕ) → content_of line ≡ Some content → lines_of line ≡ line ∷ []
 one_line [] content is = absurd (some_none is)
 one_line (b ∷ bs) content is = one_step b bs (b == newline) (content_of bs) content (λ c has. one_line bs c has) is

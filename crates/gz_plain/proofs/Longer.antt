@@ -127,7 +127,7 @@ adds_of at old new p =
     let s : Split old = split_of old in
     let more : List ℕ = s.rest ++ p.0 in
     let text : new ≡ s.whole ++ more = sym p.1 ∙ ap (λ (t : List ℕ). t ++ p.0) (sym s.joined) ∙ append_assoc s.whole s.rest p.0 in
-    let front : sequencer.committed at old ≡ sequencer.committed at s.whole =
+    let prefix : sequencer.committed at old ≡ sequencer.committed at s.whole =
     later_of at s.whole old s.rest (sym s.joined) s.lines
     ∙ ap (λ (ps : List Placed). sequencer.committed at s.whole ++ committed_after (messages_alone (messages_of at s.whole)) ps) (no_messages (at + length s.whole) s.rest s.open_end)
     ∙ append-nil (sequencer.committed at s.whole) in
@@ -138,7 +138,7 @@ adds_of at old new p =
     let ps : List Placed = messages_of at_rest more in
     record {
       more = committed_after (messages_alone (messages_of at s.whole)) ps;
-      joined = later_of at s.whole new more text s.lines ∙ ap (λ (rs : List Release). rs ++ committed_after (messages_alone (messages_of at s.whole)) ps) (sym front);
+      joined = later_of at s.whole new more text s.lines ∙ ap (λ (rs : List Release). rs ++ committed_after (messages_alone (messages_of at s.whole)) ps) (sym prefix);
       behind = committed_inside (at + length old) (at + length new) (messages_alone (messages_of at s.whole)) ps
           (inside_wider (at_rest + length s.rest) (at_rest + length more) (at + length old) (at + length new) ps (omega (arith, lengths)) (omega (arith, all))
           (open_inside at_rest s.rest p.0 s.open_end));

@@ -47,7 +47,7 @@ pub part_before : (low high from to : ℕ) (rs : List Release) → high ≤ from
 part_before low high from to [] h w = refl
 part_before low high from to (r ∷ rs) h w = rw (test_before from to r.end (omega (arith, w.0.1))) (part_before low high from to rs h w.1)
 
--- the part in front of the bounds is empty
+-- the part before the bounds is empty
 pub part_after : (low high from to : ℕ) (rs : List Release) → to ≤ low → Within low high rs → part from to rs ≡ []
 part_after low high from to [] h w = refl
 part_after low high from to (r ∷ rs) h w = rw (test_after from to r.end (omega (arith, w.0.0))) (part_after low high from to rs h w.1)

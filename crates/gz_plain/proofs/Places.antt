@@ -153,9 +153,9 @@ lines_two count place xs ys = filter-append (λ m. choice count m.key == place) 
 pub with_lines_two : (count place : ℕ) (xs ys : List Message) (texts : List (List ℕ)) → with_lines count place ys (with_lines count place xs texts) ≡ with_lines count place (xs ++ ys) texts
 with_lines_two count place xs ys [] = refl
 with_lines_two count place xs ys (t ∷ texts) =
-    let front : List ℕ = text_of_lines (lines_to count place xs) in
+    let prefix : List ℕ = text_of_lines (lines_to count place xs) in
     let back : List ℕ = text_of_lines (lines_to count place ys) in
-    rw (append_assoc t front back, lines_two count place xs ys, text_two (lines_to count place xs) (lines_to count place ys), with_lines_two count (place + 1) xs ys texts) refl
+    rw (append_assoc t prefix back, lines_two count place xs ys, text_two (lines_to count place xs) (lines_to count place ys), with_lines_two count (place + 1) xs ys texts) refl
 
 -- no lines change nothing
 pub with_lines_none : (count place : ℕ) (texts : List (List ℕ)) → with_lines count place [] texts ≡ texts

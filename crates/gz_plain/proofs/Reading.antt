@@ -18,27 +18,27 @@ use Rattle.gz_plain.proofs.Longer.{Adds, adds_of}
 use Rattle.gz_plain.proofs.Parts.{Within, part_inside, part_before, part_two, messages_two}
 use Rattle.gz_plain.proofs.Takes.{part_none}
 
--- the releases of a front, and those behind it
-pub committed_front : (from read : ℕ) (xs : List ℕ) → read ≤ length xs → Within from (from + read) (committed from (take read xs))
-committed_front from read xs within =
+-- the releases of a prefix, and those behind it
+pub committed_prefix : (from read : ℕ) (xs : List ℕ) → read ≤ length xs → Within from (from + read) (committed from (take read xs))
+committed_prefix from read xs within =
     subst (λ (n : ℕ). Within from (from + n) (committed from (take read xs))) (length-take-le read xs within)
     (committed_inside from (from + length (take read xs)) [] (messages_of from (take read xs)) (text_inside from (take read xs)))
 
-pub adds_front : (from read : ℕ) (xs : List ℕ) → Adds from (take read xs) xs
-adds_front from read xs = adds_of from (take read xs) xs (drop read xs, take-append-drop read xs)
+pub adds_prefix : (from read : ℕ) (xs : List ℕ) → Adds from (take read xs) xs
+adds_prefix from read xs = adds_of from (take read xs) xs (drop read xs, take-append-drop read xs)
 
--- what is new is released behind the front
+-- what is new is released behind the prefix
 pub news_behind : (from read : ℕ) (xs : List ℕ) → read ≤ length xs
     → released_in (committed from xs) ≡ released_in (committed from (take read xs)) ++ part (from + read) (from + length xs) (committed from xs)
 news_behind from read xs within =
-    let a : Adds from (take read xs) xs = adds_front from read xs in
-    let front : List Release = committed from (take read xs) in
+    let a : Adds from (take read xs) xs = adds_prefix from read xs in
+    let prefix : List Release = committed from (take read xs) in
     let behind : Within (from + read) (from + length xs) a.more = subst (λ (n : ℕ). Within (from + n) (from + length xs) a.more) (length-take-le read xs within) a.behind in
     let new : part (from + read) (from + length xs) (committed from xs) ≡ released_in a.more =
     ap (λ (rs : List Release). part (from + read) (from + length xs) rs) a.joined
-    ∙ part_two (from + read) (from + length xs) front a.more
-    ∙ rw (part_before from (from + read) (from + read) (from + length xs) front (omega arith) (committed_front from read xs within), part_inside (from + read) (from + length xs) a.more behind) refl in
-    ap (λ (rs : List Release). released_in rs) a.joined ∙ messages_two front a.more ∙ ap (λ (ms : List Message). released_in front ++ ms) (sym new)
+    ∙ part_two (from + read) (from + length xs) prefix a.more
+    ∙ rw (part_before from (from + read) (from + read) (from + length xs) prefix (omega arith) (committed_prefix from read xs within), part_inside (from + read) (from + length xs) a.more behind) refl in
+    ap (λ (rs : List Release). released_in rs) a.joined ∙ messages_two prefix a.more ∙ ap (λ (ms : List Message). released_in prefix ++ ms) (sym new)
 
 append_cancel : (xs ys zs : List Message) → xs ++ ys ≡ xs ++ zs → ys ≡ zs
 append_cancel [] ys zs same = same

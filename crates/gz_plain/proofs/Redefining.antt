@@ -30,7 +30,7 @@ use Rattle.gz_plain.proofs.Beginning.{names_begun, placed_begun}
 use Rattle.gz_plain.proofs.Longer.{Adds}
 use Rattle.gz_plain.proofs.Parts.{Within, messages_two, part_after, part_inside, part_two}
 use Rattle.gz_plain.proofs.Places.{text_of_is}
-use Rattle.gz_plain.proofs.Reading.{adds_front, committed_front}
+use Rattle.gz_plain.proofs.Reading.{adds_prefix, committed_prefix}
 use Rattle.gz_plain.proofs.Running.{ends_within}
 use Rattle.gz_plain.proofs.Takes.{parts_none}
 
@@ -73,7 +73,7 @@ taken_if true js to s is within =
     record {
       below = omega arith;
       ended = subst (λ (n : ℕ). AllEndBy n (sequencer.committed s.from (take read xs))) same
-          (ends_within s.from (s.from + read) (sequencer.committed s.from (take read xs)) (committed_front s.from read xs (omega (arith, within))));
+          (ends_within s.from (s.from + read) (sequencer.committed s.from (take read xs)) (committed_prefix s.from read xs (omega (arith, within))));
     }
 taken_if false js to s is within =
     let xs : List ℕ = text_from js (source_named s) in
@@ -85,14 +85,14 @@ taken_if false js to s is within =
     }
 
 -- what a text has released that ends by an offset
-front_part : (from read : ℕ) (xs : List ℕ) → read ≤ length xs → part from (from + read) (sequencer.committed from xs) ≡ released_in (sequencer.committed from (take read xs))
-front_part from read xs within =
-    let a : Adds from (take read xs) xs = adds_front from read xs in
-    let front : List Release = sequencer.committed from (take read xs) in
+prefix_part : (from read : ℕ) (xs : List ℕ) → read ≤ length xs → part from (from + read) (sequencer.committed from xs) ≡ released_in (sequencer.committed from (take read xs))
+prefix_part from read xs within =
+    let a : Adds from (take read xs) xs = adds_prefix from read xs in
+    let prefix : List Release = sequencer.committed from (take read xs) in
     let behind : Within (from + read) (from + length xs) a.more = subst (λ (n : ℕ). Within (from + n) (from + length xs) a.more) (length-take-le read xs within) a.behind in
     ap (λ (rs : List Release). part from (from + read) rs) a.joined
-    ∙ part_two from (from + read) front a.more
-    ∙ rw (part_inside from (from + read) front (committed_front from read xs within), part_after (from + read) (from + length xs) from (from + read) a.more (omega arith) behind) (append-nil (released_in front))
+    ∙ part_two from (from + read) prefix a.more
+    ∙ rw (part_inside from (from + read) prefix (committed_prefix from read xs within), part_after (from + read) (from + length xs) from (from + read) a.more (omega arith) behind) (append-nil (released_in prefix))
 
 no_way_back : (from to end : ℕ) → to ≤ from → (nat_lt from end && nat_le end to) ≡ false
 no_way_back from to end back = grind (arith, common_steps)
@@ -106,7 +106,7 @@ released_if : (is : Bool) (from to : ℕ) (xs : List ℕ) → nat_le from to ≡
 released_if true from to xs is within =
     let same : from + (to - from) ≡ to = omega (arith, is_least from to is) in
     fed_is_committed from (take (to - from) xs)
-    ∙ sym (front_part from (to - from) xs (omega (arith, within)))
+    ∙ sym (prefix_part from (to - from) xs (omega (arith, within)))
     ∙ ap (λ (n : ℕ). part from n (sequencer.committed from xs)) same
 released_if false from to xs is within =
     let none : to - from ≡ 0 = omega (arith, not_more from to is) in

@@ -20,7 +20,7 @@ use Rattle.gz_plain.specs.declared.reader.Reader.{Reader}
 use Rattle.gz_plain.proofs.Longer.{Longer, Adds, prefix_drop}
 use Rattle.gz_plain.proofs.Growth.{text_inside, committed_inside}
 use Rattle.gz_plain.proofs.Parts.{Within, within_wider, part_inside, part_before, part_two, messages_two}
-use Rattle.gz_plain.proofs.Reading.{committed_front, adds_front, news_behind, behind_len}
+use Rattle.gz_plain.proofs.Reading.{committed_prefix, adds_prefix, news_behind, behind_len}
 use Rattle.gz_plain.proofs.Takes.{append_none}
 
 -- ---- ends
@@ -40,15 +40,15 @@ ends_within low high (r ∷ rs) w = (w.0.1, ends_within low high rs w.1)
 -- ---- one reader
 
 -- what is new is what is released behind what was read
-new_messages : (r : Reader) (text : List ℕ) → IsRead r text → news r text ≡ released_in (adds_front r.from r.read (text_behind r text)).more
+new_messages : (r : Reader) (text : List ℕ) → IsRead r text → news r text ≡ released_in (adds_prefix r.from r.read (text_behind r text)).more
 new_messages r text read =
     let xs : List ℕ = text_behind r text in
     let high : ℕ = r.from + length xs in
-    let a : Adds r.from (take r.read xs) xs = adds_front r.from r.read xs in
-    let front : List Release = committed r.from (take r.read xs) in
+    let a : Adds r.from (take r.read xs) xs = adds_prefix r.from r.read xs in
+    let prefix : List Release = committed r.from (take r.read xs) in
     let behind : Within (r.from + r.read) high a.more = subst (λ (n : ℕ). Within (r.from + n) high a.more) (length-take-le r.read xs read.within) a.behind in
-    ap (λ (rs : List Release). part (r.from + r.read) high rs) a.joined ∙ part_two (r.from + r.read) high front a.more
-    ∙ rw (part_before r.from (r.from + r.read) (r.from + r.read) high front (omega arith) (committed_front r.from r.read xs read.within), part_inside (r.from + r.read) high a.more behind) refl
+    ap (λ (rs : List Release). part (r.from + r.read) high rs) a.joined ∙ part_two (r.from + r.read) high prefix a.more
+    ∙ rw (part_before r.from (r.from + r.read) (r.from + r.read) high prefix (omega arith) (committed_prefix r.from r.read xs read.within), part_inside (r.from + r.read) high a.more behind) refl
 
 -- what is left to take is what is new
 untaken_one : (o : ℕ) (r : Reader) (text : List ℕ) → IsRead r text → IsTaken o r text
@@ -56,11 +56,11 @@ untaken_one : (o : ℕ) (r : Reader) (text : List ℕ) → IsRead r text → IsT
 untaken_one o r text read taken =
     let xs : List ℕ = text_behind r text in
     let high : ℕ = r.from + length xs in
-    let a : Adds r.from (take r.read xs) xs = adds_front r.from r.read xs in
-    let front : List Release = committed r.from (take r.read xs) in
+    let a : Adds r.from (take r.read xs) xs = adds_prefix r.from r.read xs in
+    let prefix : List Release = committed r.from (take r.read xs) in
     let behind : Within (r.from + r.read) high a.more = subst (λ (n : ℕ). Within (r.from + n) high a.more) (length-take-le r.read xs read.within) a.behind in
-    ap (λ (rs : List Release). part o high rs) a.joined ∙ part_two o high front a.more
-    ∙ rw (part_by o high front taken.ended, part_inside o high a.more (within_wider (r.from + r.read) high o high a.more taken.below (omega arith) behind)) refl
+    ap (λ (rs : List Release). part o high rs) a.joined ∙ part_two o high prefix a.more
+    ∙ rw (part_by o high prefix taken.ended, part_inside o high a.more (within_wider (r.from + r.read) high o high a.more taken.below (omega arith) behind)) refl
     ∙ sym (new_messages r text read)
 
 take_all : (xs : List ℕ) → take (length xs) xs ≡ xs
@@ -93,7 +93,7 @@ none_mapped (r ∷ rs) none = absurd (cons_none (r.message) (released_in rs) non
 old_all : (r : Reader) (text : List ℕ) → IsRead r text → news r text ≡ [] → committed r.from (text_behind r text) ≡ committed r.from (take r.read (text_behind r text))
 old_all r text read none =
     let xs : List ℕ = text_behind r text in
-    let a : Adds r.from (take r.read xs) xs = adds_front r.from r.read xs in
+    let a : Adds r.from (take r.read xs) xs = adds_prefix r.from r.read xs in
     a.joined ∙ ap (λ (rs : List Release). committed r.from (take r.read xs) ++ rs) (none_mapped a.more (sym (new_messages r text read) ∙ none)) ∙ append-nil (committed r.from (take r.read xs))
 
 on_by : (b : Bool) (js : List Journal) (r : Reader) → nat_lt r.read (length (text_behind r (text_for js r))) ≡ b → Fits js r
@@ -203,7 +203,7 @@ taken_own js (r ∷ rs) read =
     let xs : List ℕ = text_behind r (text_for js r) in (
       record {
         below = omega arith;
-        ended = ends_within r.from (r.from + r.read) (committed r.from (take r.read xs)) (committed_front r.from r.read xs read.0.2.within);
+        ended = ends_within r.from (r.from + r.read) (committed r.from (take r.read xs)) (committed_prefix r.from r.read xs read.0.2.within);
       },
       taken_own js rs read.1,
     )
@@ -226,15 +226,15 @@ untaken_all js (o ∷ os) (r ∷ rs) read taken = rw (untaken_one o r (text_for 
 
 -- ---- longer journals
 
-take_front : (n : ℕ) (xs ys : List ℕ) → n ≤ length xs → take n (xs ++ ys) ≡ take n xs
-take_front zero xs ys fits = refl
-take_front (suc n) [] ys fits = absurd (omega (arith, fits))
-take_front (suc n) (x ∷ xs) ys fits = ap (λ (zs : List ℕ). x ∷ zs) (take_front n xs ys (omega (arith, fits)))
+take_prefix : (n : ℕ) (xs ys : List ℕ) → n ≤ length xs → take n (xs ++ ys) ≡ take n xs
+take_prefix zero xs ys fits = refl
+take_prefix (suc n) [] ys fits = absurd (omega (arith, fits))
+take_prefix (suc n) (x ∷ xs) ys fits = ap (λ (zs : List ℕ). x ∷ zs) (take_prefix n xs ys (omega (arith, fits)))
 
-same_front : (r : Reader) (text new : List ℕ) → IsPrefix text new → IsRead r text → take r.read (text_behind r new) ≡ take r.read (text_behind r text)
-same_front r text new longer read =
+same_prefix : (r : Reader) (text new : List ℕ) → IsPrefix text new → IsRead r text → take r.read (text_behind r new) ≡ take r.read (text_behind r text)
+same_prefix r text new longer read =
     let p : IsPrefix (text_behind r text) (text_behind r new) = prefix_drop r.from text new longer in
-    ap (λ (ys : List ℕ). take r.read ys) (sym p.1) ∙ take_front r.read (text_behind r text) p.0 read.within
+    ap (λ (ys : List ℕ). take r.read ys) (sym p.1) ∙ take_prefix r.read (text_behind r text) p.0 read.within
 
 pub read_longer : (js new : List Journal) (rs : List Reader) → Longer js new → ((name : List ℕ) → place_of name new ≡ place_of name js) → AreRead js rs → AreRead new rs
 read_longer js new [] longer places read = tt
@@ -247,7 +247,7 @@ read_longer js new (r ∷ rs) longer places read =
         read.0.1 ∙ sym (places r.journal),
         record {
           within = omega (arith, read.0.2.within, further);
-          at = read.0.2.at ∙ ap (λ (ys : List ℕ). point_of (fed (started r.from) ys)) (sym (same_front r text (text_for new r) (longer r.journal) read.0.2));
+          at = read.0.2.at ∙ ap (λ (ys : List ℕ). point_of (fed (started r.from) ys)) (sym (same_prefix r text (text_for new r) (longer r.journal) read.0.2));
         },
       ),
       read_longer js new rs longer places read.1,
@@ -260,7 +260,7 @@ taken_longer js new (o ∷ os) [] longer read taken = absurd taken
 taken_longer js new (o ∷ os) (r ∷ rs) longer read taken = (
   record {
     below = taken.0.below;
-    ended = subst (λ (ys : List ℕ). AllEndBy o (committed r.from ys)) (sym (same_front r (text_for js r) (text_for new r) (longer r.journal) read.0.2)) taken.0.ended;
+    ended = subst (λ (ys : List ℕ). AllEndBy o (committed r.from ys)) (sym (same_prefix r (text_for js r) (text_for new r) (longer r.journal) read.0.2)) taken.0.ended;
   },
   taken_longer js new os rs longer read.1 taken.1,
 )

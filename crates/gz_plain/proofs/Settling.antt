@@ -13,7 +13,7 @@ use Rattle.gz_plain.proofs.Stepping.{Grows, grows_step, all_kept_grown}
 
 -- ---- a round
 
--- shards in front of those of a world
+-- shards before those of a world
 abbrev pub behind : List shards.Shard → World → World
 behind xs w = record { journals = w.journals; shards = xs ++ w.shards }
 

@@ -63,9 +63,9 @@ pub record Kept (js : List Journal) (s : Shard) : Type 0 where
   pub outputs : Holds js s.producer (length s.outputs) 0 s.outputs batches
   pub clock : s.clock ≡ clock_after 0 batches
 
-front_holds : (a b : Bool) → (a && b) ≡ true → a ≡ true
-front_holds true b is = refl
-front_holds false b is = is
+prefix_holds : (a b : Bool) → (a && b) ≡ true → a ≡ true
+prefix_holds true b is = refl
+prefix_holds false b is = is
 
 back_holds : (a b : Bool) → (a && b) ≡ true → b ≡ true
 back_holds true b is = is
@@ -102,13 +102,13 @@ outputs_two (x ∷ xs) ys a c = (a.0, outputs_two xs ys a.1 c)
 
 key_is_short : (m : Message) → is_message m ≡ true → is_text_within max_key m.key ≡ true
 key_is_short m is =
-    front_holds (is_text_within max_key m.key) (is_text_within max_value m.value)
-    (front_holds (is_text_within max_key m.key && is_text_within max_value m.value) (nat_le m.flags ack_txn) is)
+    prefix_holds (is_text_within max_key m.key) (is_text_within max_value m.value)
+    (prefix_holds (is_text_within max_key m.key && is_text_within max_value m.value) (nat_le m.flags ack_txn) is)
 
 value_is_short : (m : Message) → is_message m ≡ true → is_text_within max_value m.value ≡ true
 value_is_short m is =
     back_holds (is_text_within max_key m.key) (is_text_within max_value m.value)
-    (front_holds (is_text_within max_key m.key && is_text_within max_value m.value) (nat_le m.flags ack_txn) is)
+    (prefix_holds (is_text_within max_key m.key && is_text_within max_value m.value) (nat_le m.flags ack_txn) is)
 
 number_is_short : (n : ℕ) → is_text_within max_value (decimal (raised n)) ≡ true
 number_is_short n = is_text 4096 (decimal (raised n)) (digits-IsUtf8 10 false (raised n) (omega arith) (omega arith)) (short_decimal (raised n) (omega arith))

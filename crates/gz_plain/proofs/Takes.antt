@@ -18,7 +18,7 @@ use Rattle.gz_plain.proofs.Longer.{Longer, later_any}
 
 -- ---- one source
 
--- What is committed is a front that was read, up to the last offset, and the rest.
+-- What is committed is a prefix that was read, up to the last offset, and the rest.
 pub record Taken (from : ℕ) (offsets : List ℕ) (rs : List Release) (end : ℕ) : Type 0 where
   pub seen : List Release
   pub rest : List Release

@@ -136,12 +136,12 @@ present_written count place lines ack (n ∷ names) js others a =
 of_grown : (p : List ℕ) (text : List ℕ) (ms : List Message) → is_whole text ≡ true → Each IsLine ms → AllOf p ms
     → of_producer p (messages_alone (messages_of 0 (text ++ text_of_lines ms))) ≡ of_producer p (messages_alone (messages_of 0 text)) ++ ms
 of_grown p text ms whole lines all =
-    let front : List Message = messages_alone (messages_of 0 text) in
+    let prefix : List Message = messages_alone (messages_of 0 text) in
     ap (λ (ps : List Placed). of_producer p (messages_alone ps)) (messages_joined 0 text (text_of_lines ms) whole)
     ∙ ap (λ (xs : List Message). of_producer p xs) (map-append (λ q. q.message) (messages_of 0 text) (messages_of (0 + length text) (text_of_lines ms)))
-    ∙ filter-append (λ m. bytes_eq m.producer p) front (messages_alone (messages_of (0 + length text) (text_of_lines ms)))
-    ∙ ap (λ (xs : List Message). of_producer p front ++ of_producer p xs) (lines_read (0 + length text) ms lines)
-    ∙ ap (λ (xs : List Message). of_producer p front ++ xs) (of_all p ms all)
+    ∙ filter-append (λ m. bytes_eq m.producer p) prefix (messages_alone (messages_of (0 + length text) (text_of_lines ms)))
+    ∙ ap (λ (xs : List Message). of_producer p prefix ++ of_producer p xs) (lines_read (0 + length text) ms lines)
+    ∙ ap (λ (xs : List Message). of_producer p prefix ++ xs) (of_all p ms all)
 
 lines_all_of : (p : List ℕ) (last : ℕ) (os : List Output) → AllOf p (lines_from p last os)
 lines_all_of p last [] = tt
@@ -218,13 +218,13 @@ foreign_two p a b c f g =
 
 pub of_foreign : (p old new : List ℕ) → is_whole old ≡ true → Foreign p old new → of_producer p (messages_alone (messages_of 0 new)) ≡ of_producer p (messages_alone (messages_of 0 old))
 of_foreign p old new whole f =
-    let front : List Message = messages_alone (messages_of 0 old) in
+    let prefix : List Message = messages_alone (messages_of 0 old) in
     ap (λ (t : List ℕ). of_producer p (messages_alone (messages_of 0 t))) f.joined
     ∙ ap (λ (ps : List Placed). of_producer p (messages_alone ps)) (messages_joined 0 old f.more whole)
     ∙ ap (λ (xs : List Message). of_producer p xs) (map-append (λ q. q.message) (messages_of 0 old) (messages_of (0 + length old) f.more))
-    ∙ filter-append (λ m. bytes_eq m.producer p) front (messages_alone (messages_of (0 + length old) f.more))
-    ∙ ap (λ (xs : List Message). of_producer p front ++ xs) (ap (λ (n : ℕ). of_producer p (messages_alone (messages_of n f.more))) (omega arith) ∙ f.none)
-    ∙ append-nil (of_producer p front)
+    ∙ filter-append (λ m. bytes_eq m.producer p) prefix (messages_alone (messages_of (0 + length old) f.more))
+    ∙ ap (λ (xs : List Message). of_producer p prefix ++ xs) (ap (λ (n : ℕ). of_producer p (messages_alone (messages_of n f.more))) (omega arith) ∙ f.none)
+    ∙ append-nil (of_producer p prefix)
 
 -- all journals gain only what others write
 abbrev pub AllForeign : List ℕ → List Journal → List Journal → Type 0

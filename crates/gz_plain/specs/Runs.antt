@@ -73,7 +73,7 @@ abbrev pub AreClients : List Message → Type 0
 AreClients [] = ⊤
 AreClients (m ∷ ms) = IsLine m × ((number : ℕ) × (m.producer ≡ client_octets number)) × AreClients ms
 
--- All that lands is messages of clients; shards put out to journals that are there, none is lost, and there is a
+-- All that lands is messages of clients; shards emit to journals that are there, none is lost, and there is a
 -- number for each.
 abbrev pub MayHappen : Event → World → Type 0
 MayHappen (lands name ms) w = AreClients ms

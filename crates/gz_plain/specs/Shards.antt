@@ -22,7 +22,7 @@ pub record Past : Type 0 where
   pub marks : List Mark
 
 -- A shard: its id, the prefix of its recovery log, the producer of its lines, its sources, the journals that it puts
--- out to, in rising order of their names, its application, and whether it is disabled; what earlier definitions left
+-- out to, in ascending order of their names, its application, and whether it is disabled; what earlier definitions left
 -- it, and nothing where it keeps the one that it began with; and what it has come to: the offsets of its sources in
 -- each commit, the last clock of its lines, and the application's state.
 pub record Shard : Type 0 where

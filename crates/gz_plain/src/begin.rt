@@ -80,9 +80,11 @@ pub fn begin_shard(
 ) -> Result<Shard, NoMemory>
     requires few { number < 2 ^ 40 }
     requires offsets { AreSmallSources definition.sources.items }
-    requires sources { ArePresent (journals_of (map source_named definition.sources.items)) journals.now }
+    requires sources { ArePresent
+        (journals_of (map source_named definition.sources.items)) journals.now }
     requires outputs { ArePresent definition.outputs.items journals.now }
-    ensures shard { IfOk result (λ shard. shard_of shard ≡ fresh number (definition_of definition)) }
+    ensures shard { IfOk result
+        (λ shard. shard_of shard ≡ fresh number (definition_of definition)) }
     ensures kept { IfOk result (λ shard. IsKept journals.now shard) }
 {
     let readers = begin_readers(alloc, definition.sources, journals)?;

@@ -77,10 +77,12 @@ fn continue_shard(
     journals: &Journals,
 ) -> Result<Shard, NoMemory>
     requires offsets { AreSmallSources definition.sources.items }
-    requires sources { ArePresent (journals_of (map source_named definition.sources.items)) journals.now }
+    requires sources { ArePresent
+        (journals_of (map source_named definition.sources.items)) journals.now }
     requires outputs { ArePresent definition.outputs.items journals.now }
     requires kept { IsKept journals.now shard }
-    ensures shard { IfOk result (λ new. shard_of new ≡ continued journals.now (definition_of definition) (shard_of shard)) }
+    ensures shard { IfOk result
+        (λ new. shard_of new ≡ continued journals.now (definition_of definition) (shard_of shard)) }
     ensures kept { IfOk result (λ new. IsKept journals.now new) }
 {
     if keeps_definition(&definition, &shard) {
@@ -115,7 +117,8 @@ fn next_shard(
 ) -> Result<Shard, NoMemory>
     requires few { number.old < 2 ^ 40 }
     requires offsets { AreSmallSources definition.sources.items }
-    requires sources { ArePresent (journals_of (map source_named definition.sources.items)) journals.now }
+    requires sources { ArePresent
+        (journals_of (map source_named definition.sources.items)) journals.now }
     requires outputs { ArePresent definition.outputs.items journals.now }
     requires kept { AllKept journals.now shards.old.items }
     ensures shard { IfOk result (λ shard. (ds : List Seen) →

@@ -27,7 +27,7 @@ pub struct Source {
     pub from: u64,
 }
 
-/// What a shard is said to be. Outputs are in rising order of their names.
+/// What a shard is said to be. Outputs are in ascending order of their names.
 #[derive(Drop)]
 pub struct Definition {
     pub id: Name,
@@ -85,8 +85,10 @@ impl Cluster {
         requires names { Distinct (names_of (with_journals names.items self.old.journals)) }
         requires few { length self.old.shards + length definitions.items < 2 ^ 40 }
         requires offsets { AreSmall definitions.items }
-        requires linked { AreLinked (with_journals names.items self.old.journals) (definitions_of definitions.items) }
-        ensures { OnOk result (self.new ≡ changed names.items (definitions_of definitions.items) self.old) }
+        requires linked { AreLinked (with_journals names.items self.old.journals)
+            (definitions_of definitions.items) }
+        ensures { OnOk result
+            (self.new ≡ changed names.items (definitions_of definitions.items) self.old) }
     {
         let mut journals = mem::replace(&mut self.journals, Journals::new(alloc));
         let shards = mem::replace(&mut self.shards, Vec::new(alloc));
@@ -115,7 +117,8 @@ impl Cluster {
     /// NoMemory nothing has changed.
     #[tactic(auto, using(crate::proofs::Places::appended_is, crate::proofs::Places::distinct_stay_at))]
     pub fn append(&mut self, name: &[u8], attempt: Attempt, bytes: Blob) -> Result<(), NoMemory>
-        ensures ok { OnOk result (self.new ≡ record self.old { journals = appended name.now bytes self.old.journals }) }
+        ensures ok { OnOk result
+            (self.new ≡ record self.old { journals = appended name.now bytes self.old.journals }) }
         ensures err { OnErr result (self.new ≡ self.old) }
     {
         let place = self.journals.place_of(name);
@@ -138,7 +141,8 @@ impl Cluster {
 
     /// What is told of each shard.
     pub fn reports(&self, alloc: Global) -> Result<Vec<ShardReport>, NoMemory>
-        ensures { IfOk result (λ reports. reports.items ≡ map (report_of self.now.journals) self.now.shards) }
+        ensures { IfOk result
+            (λ reports. reports.items ≡ map (report_of self.now.journals) self.now.shards) }
     {
         report_all(alloc, self.shards.as_slice(), &self.journals)
     }

@@ -15,7 +15,10 @@ const MAX_PIECE: u64 = 262_144;
 pub fn feed_journal(journal: &Journal, sequencer: &mut Sequencer, to: u64) -> Result<(), NoMemory>
     requires start { at sequencer.old ≤ to }
     requires end { to ≤ length journal.now.text }
-    ensures { OnOk result (sequencer.new ≡ fed sequencer.old (take (to - at sequencer.old) (drop (at sequencer.old) journal.now.text))) }
+    ensures { OnOk result
+        (sequencer.new
+        ≡ fed sequencer.old
+        (take (to - at sequencer.old) (drop (at sequencer.old) journal.now.text))) }
 {
     let _end = journal.end();
     let mut at = sequencer.at();
@@ -36,7 +39,10 @@ pub fn feed(
 ) -> Result<(), NoMemory>
     requires start { at sequencer.old ≤ to }
     requires end { to ≤ length (text_at place journals.now) }
-    ensures { OnOk result (sequencer.new ≡ fed sequencer.old (take (to - at sequencer.old) (drop (at sequencer.old) (text_at place journals.now)))) }
+    ensures { OnOk result
+        (sequencer.new
+        ≡ fed sequencer.old
+        (take (to - at sequencer.old) (drop (at sequencer.old) (text_at place journals.now)))) }
 {
     match journals.get(place) {
         Some(journal) => feed_journal(journal, sequencer, to),

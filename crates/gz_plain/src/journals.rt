@@ -106,7 +106,8 @@ fn place_among(journals: &[Journal], name: &[u8]) -> usize
 /// The journal at this place, which has the text there.
 #[tactic(auto, using(crate::proofs::Places::text_at_read, crate::proofs::Places::text_at_past))]
 fn journal_among(journals: &[Journal], place: usize) -> Option<&Journal>
-    ensures { MatchOption result (text_at place journals.now ≡ []) (λ journal. journal.now.text ≡ text_at place journals.now) }
+    ensures { MatchOption result (text_at place journals.now ≡ [])
+        (λ journal. journal.now.text ≡ text_at place journals.now) }
 {
     journals.get(place)
 }
@@ -162,7 +163,8 @@ impl Journals {
 
     /// The journal at this place. None exactly where there is no such place. It takes no memory.
     pub fn get(&self, place: usize) -> Option<&Journal>
-        ensures { MatchOption result (text_at place self.now ≡ []) (λ journal. journal.now.text ≡ text_at place self.now) }
+        ensures { MatchOption result (text_at place self.now ≡ [])
+            (λ journal. journal.now.text ≡ text_at place self.now) }
     {
         journal_among(self.journals.as_slice(), place)
     }

@@ -11,10 +11,11 @@ ghost use Rattle.gz_plain.specs.Runs.{Event, MayAllHappen, after_events, changed
 /// applications, whatever clients publish, however often everything settles, and whatever journals and shards are
 /// added or have another definition on the way. Of each shard that kept the definition that it began with: each
 /// committed message of its sources is taken once and in order, its store is the application's fold over that one read
-/// order, and readers of each of its outputs accept what the fold puts out to it, each once and in order.
+/// order, and readers of each of its outputs accept what the fold emits to it, each once and in order.
 #[tactic(auto, using(crate::proofs::Promises::all_exactly_once_after))]
 pub fn every_shard_is_exactly_once()
-    ensures { (es : List Event) → MayAllHappen es nothing → AllExactlyOnce (after_events es nothing).journals (after_events es nothing).shards }
+    ensures { (es : List Event) → MayAllHappen es nothing →
+        AllExactlyOnce (after_events es nothing).journals (after_events es nothing).shards }
 {}
 
 /// Where a journal's writers come before its readers, a settle ends: a further round changes nothing, and each
@@ -24,7 +25,8 @@ pub fn every_shard_is_exactly_once()
 pub fn a_settle_ends()
     ensures stays { (rank : List ℕ → ℕ) (w : World) → AreInOrder rank (wirings_of w.shards) →
         round (settled w).shards (settled w).journals ≡ settled w }
-    ensures rests { (es : List Event) (rank : List ℕ → ℕ) → MayAllHappen es nothing → AreInOrder rank (wirings_of (after_events es nothing).shards) →
+    ensures rests { (es : List Event) (rank : List ℕ → ℕ) → MayAllHappen es nothing →
+        AreInOrder rank (wirings_of (after_events es nothing).shards) →
         AllRest (settled (after_events es nothing)).journals (settled (after_events es nothing)).shards }
 {}
 
@@ -32,14 +34,18 @@ pub fn a_settle_ends()
 /// sources have committed is left to read. After a settle it isn't behind: it is told to be caught up, unless it is
 /// disabled or has no clocks left.
 pub fn what_is_told_is_so()
-    ensures caught { (es : List Event) → MayAllHappen es nothing → AllTellCaught (after_events es nothing).journals (after_events es nothing).shards }
-    ensures settled { (rank : List ℕ → ℕ) (w : World) → AreInOrder rank (wirings_of w.shards) → AllUpToDate (settled w).journals (settled w).shards }
+    ensures caught { (es : List Event) → MayAllHappen es nothing →
+        AllTellCaught (after_events es nothing).journals (after_events es nothing).shards }
+    ensures settled { (rank : List ℕ → ℕ) (w : World) → AreInOrder rank (wirings_of w.shards) →
+        AllUpToDate (settled w).journals (settled w).shards }
 {}
 
 /// A change makes the shards what was said of them, and loses none: each one that was there goes on, with the same id,
 /// producer, last clock, state and number of commits.
 #[tactic(auto, using(crate::proofs::Changes::definitions_changed, crate::proofs::Changes::all_go_on_changed))]
 pub fn a_change_loses_no_shard()
-    ensures said { (names : List (List ℕ)) (ds : List Definition) (w : World) → map definition_of (changed names ds w).shards ≡ ds }
-    ensures goes_on { (names : List (List ℕ)) (ds : List Definition) (w : World) → continues ds w.shards ≡ true → AllGoOn w.shards (changed names ds w).shards }
+    ensures said { (names : List (List ℕ)) (ds : List Definition) (w : World) →
+        map definition_of (changed names ds w).shards ≡ ds }
+    ensures goes_on { (names : List (List ℕ)) (ds : List Definition) (w : World) →
+        continues ds w.shards ≡ true → AllGoOn w.shards (changed names ds w).shards }
 {}

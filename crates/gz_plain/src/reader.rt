@@ -60,8 +60,14 @@ fn resume(
     messages: &mut Messages,
 ) -> Result<SourcePoint, NoMemory>
     requires { at (resumed point.now) ≤ length (text_at place journals.now) }
-    ensures messages { OnOk result (messages.new ≡ messages.old ++ (fed (resumed point.now) (drop (at (resumed point.now)) (text_at place journals.now))).released) }
-    ensures point { IfOk result (λ next. next ≡ point_of (fed (resumed point.now) (drop (at (resumed point.now)) (text_at place journals.now)))) }
+    ensures messages { OnOk result
+        (messages.new ≡ messages.old
+        ++ (fed (resumed point.now)
+        (drop (at (resumed point.now)) (text_at place journals.now))).released) }
+    ensures point { IfOk result
+        (λ next. next
+        ≡ point_of (fed (resumed point.now)
+        (drop (at (resumed point.now)) (text_at place journals.now)))) }
 {
     let mut sequencer = Sequencer::resume(alloc, point)?;
     let end = journals.end_at(place);
@@ -73,7 +79,15 @@ fn resume(
 impl Reader {
     /// A reader that has read nothing yet. It takes no memory.
     pub fn new(alloc: Global, journal: Name, place: usize, from: u64) -> Reader
-        ensures { result ≡ record { journal = journal; place = place; from = from; read = 0; point = point_of (started from); next = None } }
+        ensures { result
+            ≡ record {
+              journal = journal;
+              place = place;
+              from = from;
+              read = 0;
+              point = point_of (started from);
+              next = None;
+            } }
     {
         Reader {
             journal,
@@ -94,8 +108,10 @@ impl Reader {
         messages: &mut Messages,
     ) -> Result<Option<Next>, NoMemory>
         requires { IsRead self.now (text_at self.now.place journals.now) }
-        ensures next { IfOk result (λ next. next ≡ (reading (text_at self.now.place journals.now) self.now).next) }
-        ensures messages { OnOk result (messages.new ≡ messages.old ++ news self.now (text_at self.now.place journals.now)) }
+        ensures next { IfOk result
+            (λ next. next ≡ (reading (text_at self.now.place journals.now) self.now).next) }
+        ensures messages { OnOk result
+            (messages.new ≡ messages.old ++ news self.now (text_at self.now.place journals.now)) }
     {
         let end = journals.end_at(self.place);
         let read = end.saturating_sub(self.from);
@@ -115,8 +131,10 @@ impl Reader {
         messages: &mut Messages,
     ) -> Result<Reader, NoMemory>
         requires { IsRead self (text_at self.place journals.now) }
-        ensures reader { IfOk result (λ reader. reader ≡ reading (text_at self.place journals.now) self) }
-        ensures messages { OnOk result (messages.new ≡ messages.old ++ news self (text_at self.place journals.now)) }
+        ensures reader { IfOk result
+            (λ reader. reader ≡ reading (text_at self.place journals.now) self) }
+        ensures messages { OnOk result
+            (messages.new ≡ messages.old ++ news self (text_at self.place journals.now)) }
         ensures short { length (text_at self.place journals.now) ≤ 2 ^ 62 }
     {
         let _end = journals.end_at(self.place);

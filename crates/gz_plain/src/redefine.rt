@@ -66,7 +66,10 @@ fn read_upto(
 ) -> Result<Sequencer, NoMemory>
     requires small { from ≤ 2 ^ 62 }
     requires within { to ≤ from + length (drop from (text_at place journals.now)) }
-    ensures { IfOk result (λ sequencer. sequencer ≡ fed (started from) (take (to - from) (drop from (text_at place journals.now)))) }
+    ensures { IfOk result
+        (λ sequencer.
+        sequencer ≡ fed (started from)
+        (take (to - from) (drop from (text_at place journals.now)))) }
 {
     let mut sequencer = Sequencer::new(alloc, from);
     if to <= from {
@@ -81,7 +84,9 @@ fn reach(alloc: Global, source: Source, to: u64, journals: &Journals) -> Result<
     requires small { source.from ≤ 2 ^ 62 }
     requires within { to ≤ end_at journals.now (source_named source) }
     ensures reader { IfOk result (λ reached. reached.reader ≡ reader_upto journals.now to source) }
-    ensures messages { IfOk result (λ reached. reached.messages ≡ length (part source.from to (committed journals.now (source_named source)))) }
+    ensures messages { IfOk result
+        (λ reached. reached.messages
+        ≡ length (part source.from to (committed journals.now (source_named source)))) }
 {
     let place = journals.place_of(source.journal.as_slice());
     let mut sequencer = read_upto(alloc, journals, place, source.from, to)?;
@@ -120,9 +125,14 @@ fn reach_all(
     journals: &Journals,
 ) -> Result<AllReached, NoMemory>
     requires { AreSmallSources sources.items }
-    ensures readers { IfOk result (λ all. all.readers.items ≡ readers_upto journals.now has_commits marks.now sources.items) }
-    ensures offsets { IfOk result (λ all. all.offsets.items ≡ map (reached_at journals.now has_commits marks.now) (map source_named sources.items)) }
-    ensures messages { IfOk result (λ all. all.messages ≡ passed journals.now has_commits marks.now (map source_named sources.items)) }
+    ensures readers { IfOk result
+        (λ all. all.readers.items ≡ readers_upto journals.now has_commits marks.now sources.items) }
+    ensures offsets { IfOk result
+        (λ all. all.offsets.items
+        ≡ map (reached_at journals.now has_commits marks.now) (map source_named sources.items)) }
+    ensures messages { IfOk result
+        (λ all. all.messages
+        ≡ passed journals.now has_commits marks.now (map source_named sources.items)) }
 {
     let mut all = AllReached {
         readers: Vec::new(alloc),
@@ -159,10 +169,12 @@ pub fn with_definition(
     journals: &Journals,
 ) -> Result<Shard, NoMemory>
     requires offsets { AreSmallSources definition.sources.items }
-    requires sources { ArePresent (journals_of (map source_named definition.sources.items)) journals.now }
+    requires sources { ArePresent
+        (journals_of (map source_named definition.sources.items)) journals.now }
     requires outputs { ArePresent definition.outputs.items journals.now }
     requires kept { IsKept journals.now shard }
-    ensures shard { IfOk result (λ new. shard_of new ≡ redefined journals.now (definition_of definition) (shard_of shard)) }
+    ensures shard { IfOk result
+        (λ new. shard_of new ≡ redefined journals.now (definition_of definition) (shard_of shard)) }
     ensures kept { IfOk result (λ new. IsKept journals.now new) }
 {
     let count = shard.commits.len();

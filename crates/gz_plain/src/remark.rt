@@ -36,7 +36,8 @@ fn froms(alloc: Global, readers: &[Reader]) -> Result<Vec<u64>, NoMemory>
 
 /// A mark for each reader, of which there are as many as offsets.
 fn mark_all(readers: &[Reader], offsets: &[u64], marks: &mut Vec<Mark>) -> Result<(), NoMemory>
-    ensures { OnOk result (marks.new.items ≡ marks.old.items ++ marked (map source_of readers.now) offsets.now) }
+    ensures { OnOk result
+        (marks.new.items ≡ marks.old.items ++ marked (map source_of readers.now) offsets.now) }
 {
     for (i, reader) in readers.iter().enumerate() {
         if i >= offsets.len() {
@@ -50,7 +51,9 @@ fn mark_all(readers: &[Reader], offsets: &[u64], marks: &mut Vec<Mark>) -> Resul
 
 /// Puts those marks behind the others whose journals the readers don't read.
 fn keep_marks(earlier: &[Mark], readers: &[Reader], marks: &mut Vec<Mark>) -> Result<(), NoMemory>
-    ensures { OnOk result (marks.new.items ≡ marks.old.items ++ filter (λ m. not (is_read_by m.journal (map source_of readers.now))) earlier.now) }
+    ensures { OnOk result
+        (marks.new.items ≡ marks.old.items ++ filter
+        (λ m. not (is_read_by m.journal (map source_of readers.now))) earlier.now) }
 {
     for mark in earlier {
         if !is_read(mark.journal().as_slice(), readers) {
@@ -100,7 +103,8 @@ fn first_marks(alloc: Global, shard: &Shard) -> Result<Vec<Mark>, NoMemory>
 
 /// How far a shard's commits have read each journal, where it has had earlier definitions.
 fn later_marks(alloc: Global, past: &Past, shard: &Shard) -> Result<Vec<Mark>, NoMemory>
-    ensures { IfOk result (λ marks. marks.items ≡ marks_after (Some past.now) (shard_of shard.now)) }
+    ensures { IfOk result
+        (λ marks. marks.items ≡ marks_after (Some past.now) (shard_of shard.now)) }
 {
     if shard.commits.len() == past.commits() {
         return copy_marks(alloc, past.marks());

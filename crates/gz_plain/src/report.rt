@@ -66,7 +66,8 @@ pub fn report_all(
     journals: &Journals,
 ) -> Result<Vec<ShardReport>, NoMemory>
     requires { AllKept journals.now shards.now }
-    ensures { IfOk result (λ reports. reports.items ≡ map (report_of journals.now) (shards_of shards.now)) }
+    ensures { IfOk result
+        (λ reports. reports.items ≡ map (report_of journals.now) (shards_of shards.now)) }
 {
     let mut reports = Vec::new(alloc);
     for shard in shards {

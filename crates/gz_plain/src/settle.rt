@@ -28,10 +28,15 @@ fn both(a: bool, b: bool) -> bool
 fn step_each(alloc: Global, shards: Vec<Shard>, journals: &mut Journals) -> Result<Round, NoMemory>
     requires names { Distinct (names_of journals.old) }
     requires kept { AllKept journals.old shards.items }
-    ensures round { IfOk result (λ after. record { journals = journals.new; shards = shards_of after.shards.items } ≡ round (shards_of shards.items) journals.old) }
+    ensures round { IfOk result
+        (λ after. record { journals = journals.new; shards = shards_of after.shards.items }
+        ≡ round (shards_of shards.items) journals.old) }
     ensures kept { IfOk result (λ after. AllKept journals.new after.shards.items) }
     ensures names { OnOk result (names_of journals.new ≡ names_of journals.old) }
-    ensures quiet { IfOk result (λ after. after.is_quiet ≡ true → round (shards_of shards.items) journals.old ≡ record { journals = journals.old; shards = shards_of shards.items }) }
+    ensures quiet { IfOk result
+        (λ after. after.is_quiet ≡ true →
+        round (shards_of shards.items) journals.old
+        ≡ record { journals = journals.old; shards = shards_of shards.items }) }
 {
     let mut after = Vec::new(alloc);
     let mut is_quiet = true;
@@ -54,7 +59,9 @@ pub fn settle_all(
 ) -> Result<Vec<Shard>, NoMemory>
     requires names { Distinct (names_of journals.old) }
     requires kept { AllKept journals.old shards.items }
-    ensures settled { IfOk result (λ after. record { journals = journals.new; shards = shards_of after.items } ≡ settled (record { journals = journals.old; shards = shards_of shards.items })) }
+    ensures settled { IfOk result
+        (λ after. record { journals = journals.new; shards = shards_of after.items }
+        ≡ settled (record { journals = journals.old; shards = shards_of shards.items })) }
     ensures kept { IfOk result (λ after. AllKept journals.new after.items) }
     ensures names { OnOk result (names_of journals.new ≡ names_of journals.old) }
 {

@@ -83,7 +83,7 @@ pub struct Stepped {
     pub is_quiet: bool,
 }
 
-/// Takes the messages, one after another, and answers what the application puts out.
+/// Takes the messages, one after another, and answers what the application emits.
 fn consume(
     alloc: Global,
     app: AppKind,
@@ -122,7 +122,8 @@ impl Shard {
     ) -> Result<Shard, NoMemory>
         requires { AreRead journals.now self.readers }
         ensures shard { IfOk result (λ shard. shard ≡ read_further journals.now self) }
-        ensures messages { OnOk result (messages.new ≡ messages.old ++ all_news journals.now self.readers) }
+        ensures messages { OnOk result
+            (messages.new ≡ messages.old ++ all_news journals.now self.readers) }
         ensures room { IfOk result (λ shard. HaveRoom (accepted_all shard.readers)) }
     {
         let readers = self.readers.read_on(alloc, journals, messages)?;
@@ -137,14 +138,14 @@ impl Shard {
         Ok(Shard { readers, ..self })
     }
 
-    /// Whether there are clocks for what so many messages put out, and for the ACK.
+    /// Whether there are clocks for what so many messages emit, and for the ACK.
     fn has_room(&self, count: usize) -> bool
         ensures { result ≡ nat_lt (self.now.producer.last + count + 1) (2 ^ 64) }
     {
         (count as u64) < u64::MAX - self.producer.last().value()
     }
 
-    /// Takes the messages as one commit: the application consumes them, what it puts out is written as a transaction, and
+    /// Takes the messages as one commit: the application consumes them, what it emits is written as a transaction, and
     /// what was read counts.
     #[tactic(auto, using(crate::proofs::Steps::few_out))]
     fn commit(
@@ -157,7 +158,10 @@ impl Shard {
         requires places { ArePlaced journals.old self.writers.items }
         requires clocks { self.producer.last + length messages.now + 1 < 2 ^ 64 }
         requires ends { HaveRoom (accepted_all self.readers) }
-        ensures journals { OnOk result (journals.new ≡ journals_after (shard_of self) (emitted self.app self.store messages.now) journals.old) }
+        ensures journals { OnOk result
+            (journals.new
+            ≡ journals_after (shard_of self)
+            (emitted self.app self.store messages.now) journals.old) }
         ensures shard { IfOk result (λ shard. IsCommitted self messages.now shard) }
     {
         let Shard {
@@ -206,13 +210,18 @@ impl Shard {
     }
 
     /// The plain step: all messages that are released and not yet taken are one commit. A disabled shard takes none, and
-    /// none are taken where there are too few clocks for what is put out.
+    /// none are taken where there are too few clocks for what is emitted.
     pub fn step(self, alloc: Global, journals: &mut Journals) -> Result<Stepped, NoMemory>
         requires names { Distinct (names_of journals.old) }
         requires kept { IsKept journals.old self }
-        ensures step { IfOk result (λ after. record { journals = journals.new; shard = shard_of after.shard } ≡ stepped journals.old (shard_of self)) }
+        ensures step { IfOk result
+            (λ after. record { journals = journals.new; shard = shard_of after.shard }
+            ≡ stepped journals.old (shard_of self)) }
         ensures kept { IfOk result (λ after. IsKept journals.new after.shard) }
-        ensures quiet { IfOk result (λ after. after.is_quiet ≡ true → stepped journals.old (shard_of self) ≡ record { journals = journals.old; shard = shard_of self }) }
+        ensures quiet { IfOk result
+            (λ after. after.is_quiet ≡ true →
+            stepped journals.old (shard_of self)
+            ≡ record { journals = journals.old; shard = shard_of self }) }
     {
         if self.is_disabled {
             return Ok(Stepped {

@@ -52,7 +52,8 @@ fn next_message(
     requires short_value { length value.now ≤ 4096 }
     ensures message { IfOk result (λ message.
         message ≡ record { producer = producer.old.id; clock = producer.old.last + 1; flags = flags; key = key.now; value = value.now }) }
-    ensures producer { OnOk result (producer.new ≡ record producer.old { last = producer.old.last + 1 }) }
+    ensures producer { OnOk result
+        (producer.new ≡ record producer.old { last = producer.old.last + 1 }) }
 {
     let clock = match producer.tick(0) {
         Ok(clock) => clock,
@@ -71,7 +72,8 @@ fn next_message(
 /// Puts the message's line behind the text that its key chooses, where there is one.
 #[tactic(auto, using(crate::proofs::Places::with_line_set))]
 fn put_line(alloc: Global, message: &Message, texts: &mut [Blob]) -> Result<(), NoMemory>
-    ensures { OnOk result (texts.new ≡ with_lines (length texts.old) 0 (message.now ∷ []) texts.old) }
+    ensures { OnOk result
+        (texts.new ≡ with_lines (length texts.old) 0 (message.now ∷ []) texts.old) }
 {
     if texts.is_empty() {
         return Ok(());
@@ -91,7 +93,8 @@ fn put_lines(
     requires room { producer.old.last + length outputs.now < 2 ^ 64 }
     ensures texts { OnOk result (texts.new
         ≡ with_lines (length texts.old) 0 (lines_from producer.old.id producer.old.last outputs.now) texts.old) }
-    ensures producer { OnOk result (producer.new ≡ record producer.old { last = producer.old.last + length outputs.now }) }
+    ensures producer { OnOk result
+        (producer.new ≡ record producer.old { last = producer.old.last + length outputs.now }) }
 {
     for output in outputs {
         let message = next_message(
@@ -145,7 +148,8 @@ fn append_texts(
     journals: &mut Journals,
 ) -> Result<(), NoMemory>
     requires { length texts.items ≡ length writers.now }
-    ensures { OnOk result (journals.new ≡ all_appended (places_of writers.now) texts.items journals.old) }
+    ensures { OnOk result
+        (journals.new ≡ all_appended (places_of writers.now) texts.items journals.old) }
 {
     let mut i = 0;
     for text in texts {
@@ -167,7 +171,8 @@ fn texts_of(
     ensures texts { IfOk result (λ texts. texts.items
         ≡ map (ended (line_of (ack_at producer.old.id (producer.old.last + length outputs.now + 1))))
         (with_lines count 0 (lines_from producer.old.id producer.old.last outputs.now) (replicate count []))) }
-    ensures producer { OnOk result (producer.new ≡ record producer.old { last = producer.old.last + length outputs.now + 1 }) }
+    ensures producer { OnOk result
+        (producer.new ≡ record producer.old { last = producer.old.last + length outputs.now + 1 }) }
 {
     let mut texts = empty_texts(alloc, count)?;
     put_lines(alloc, producer, outputs, texts.as_mut_slice())?;
@@ -195,7 +200,8 @@ pub fn write_commit(
     ensures journals { OnOk result (journals.new
         ≡ written_to (length writers.now) 0 (lines_from producer.old.id producer.old.last outputs.now)
         (ack_at producer.old.id (producer.old.last + length outputs.now + 1)) (map name_of writers.now) journals.old) }
-    ensures producer { OnOk result (producer.new ≡ record producer.old { last = producer.old.last + length outputs.now + 1 }) }
+    ensures producer { OnOk result
+        (producer.new ≡ record producer.old { last = producer.old.last + length outputs.now + 1 }) }
 {
     let texts = texts_of(alloc, producer, outputs.as_slice(), writers.len())?;
     append_texts(writers, attempt, texts, journals)?;

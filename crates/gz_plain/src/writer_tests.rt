@@ -14,7 +14,8 @@ use std::test::Fail;
 // A writer to the journal of this name.
 fn writer(alloc: Global, journals: &Journals, name: &str) -> Result<Writer, NoMemory>
     requires { length name.now ≤ 1024 }
-    ensures { IfOk result (λ writer. (writer.journal ≡ name.now) × (writer.place ≡ place_of name.now journals.now)) }
+    ensures { IfOk result
+        (λ writer. (writer.journal ≡ name.now) × (writer.place ≡ place_of name.now journals.now)) }
 {
     let journal = Name::of(alloc, name)?;
     let place = journals.place_of(journal.as_slice());

@@ -11,7 +11,7 @@ use gz_recovery::{Fsm, FsmError, Op, read_op};
 use std::alloc::Global;
 use std::marker::Model;
 
-/// How many bytes stand in front of a frame's content.
+/// How many bytes stand before a frame's content.
 const HEAD: usize = 8;
 
 /// Plays a recovery log from its bytes in any pieces. It keeps the machine of the whole frames so far, and the part of a

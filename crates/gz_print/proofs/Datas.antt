@@ -7,7 +7,7 @@ use Rattle.serde_json.specs.View.{items_of}
 use Rattle.serde_json.specs.Written.{has_float, items_have_float, members_have_float}
 use Rattle.gz_label.specs.declared.label.Label.{Label}
 use Rattle.gz_spec.specs.Records.{JournalSpec, ShardSpec, Specs}
-use Rattle.gz_print.specs.Printed.{values_in_front, label_members, journal_data, source_data, shard_data, member_data, four_lists, specs_data, specs_data_as}
+use Rattle.gz_print.specs.Printed.{first_values, label_members, journal_data, source_data, shard_data, member_data, four_lists, specs_data, specs_data_as}
 
 none_first : (b c : Bool) → (b || c) ≡ false → b ≡ false
 none_first true c none = none
@@ -33,7 +33,7 @@ list_float f each (x ∷ xs) = rw (each x, list_float f each xs) refl
 
 labels_float : (ls : List Label) → members_have_float (label_members ls) ≡ false
 labels_float [] = refl
-labels_float (l ∷ ls) = put_float l.name _ (label_members ls) (list_float string (λ s. refl) (values_in_front l.name (l ∷ ls))) (labels_float ls)
+labels_float (l ∷ ls) = put_float l.name _ (label_members ls) (list_float string (λ s. refl) (first_values l.name (l ∷ ls))) (labels_float ls)
 
 pub journal_float : (j : JournalSpec) → has_float (journal_data j) ≡ false
 journal_float j = rw (labels_float j.labels) refl

@@ -8,7 +8,7 @@ use Rattle.serde_json.specs.View.{items_of}
 use Rattle.serde_json.specs.Read.{max_depth}
 use Rattle.gz_label.specs.declared.label.Label.{Label}
 use Rattle.gz_spec.specs.Records.{JournalSpec, SourceSpec, ShardSpec, Specs}
-use Rattle.gz_print.specs.Printed.{list_data, values_in_front, label_members, journal_data, source_data, shard_data, member_data, four_lists, specs_data, specs_data_as}
+use Rattle.gz_print.specs.Printed.{list_data, first_values, label_members, journal_data, source_data, shard_data, member_data, four_lists, specs_data, specs_data_as}
 
 first_part : (a b n : ℕ) → max a b ≤ n → a ≤ n
 first_part a b n most = let l = le-max_left a b in omega arith
@@ -39,7 +39,7 @@ wider a m n f g = omega arith
 
 members_deep : (ls : List Label) → members_depth (label_members ls) ≤ 1
 members_deep [] = lit≤ tt
-members_deep (l ∷ ls) = put_deep 1 l.name _ (label_members ls) (one_up _ 0 (list_deep 0 string (λ v. lit≤ tt) (values_in_front l.name (l ∷ ls)))) (members_deep ls)
+members_deep (l ∷ ls) = put_deep 1 l.name _ (label_members ls) (one_up _ 0 (list_deep 0 string (λ v. lit≤ tt) (first_values l.name (l ∷ ls)))) (members_deep ls)
 
 pub journal_deep : (j : JournalSpec) → depth (journal_data j) ≤ 3
 journal_deep j = one_up _ 2 (max-le (lit≤ tt) (max-le (one_up _ 1 (members_deep j.labels)) (lit≤ tt)))

@@ -1,5 +1,5 @@
 pub mod Datas
-pub mod Fronts
+pub mod Prefixes
 pub mod LabelsBack
 pub mod Depths
 pub mod SpecsBack

@@ -15,15 +15,15 @@ number_data n = number (unsigned n)
 
 -- ---- labels
 
--- the values of the labels in front that have this name
-abbrev pub values_in_front : List ℕ → List Label → List (List ℕ)
-values_in_front name [] = []
-values_in_front name (l ∷ ls) = if bytes_eq l.name name then l.value ∷ values_in_front name ls else []
+-- the values of the first labels, as long as they have this name
+abbrev pub first_values : List ℕ → List Label → List (List ℕ)
+first_values name [] = []
+first_values name (l ∷ ls) = if bytes_eq l.name name then l.value ∷ first_values name ls else []
 
--- the name of the first label, with the values in front
+-- the name of the first label, with the values of the first labels
 abbrev pub with_first : List Label → Members → Members
 with_first [] ms = ms
-with_first (l ∷ ls) ms = put l.name (list_data (map string (values_in_front l.name (l ∷ ls)))) ms
+with_first (l ∷ ls) ms = put l.name (list_data (map string (first_values l.name (l ∷ ls)))) ms
 
 -- each name of the labels, with its values
 abbrev pub label_members : List Label → Members

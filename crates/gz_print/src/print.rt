@@ -4,7 +4,7 @@ ghost use Rattle.serde_json.specs.Data.{string, put};
 ghost use Rattle.serde_json.specs.View.{view, members_view};
 ghost use Rattle.serde_json.specs.Written.{compact_text};
 ghost use Rattle.gz_json.specs.Json.{json_of};
-ghost use Rattle.gz_print.specs.Printed.{values_in_front, with_first, label_members, labels_data, fragment_data, journal_data, source_data, shard_data, member_data, four_lists, specs_data, specs_data_as, journal_text, shard_text, specs_text};
+ghost use Rattle.gz_print.specs.Printed.{first_values, with_first, label_members, labels_data, fragment_data, journal_data, source_data, shard_data, member_data, four_lists, specs_data, specs_data_as, journal_text, shard_text, specs_text};
 ghost use Rattle.gz_spec.specs.Journals.{journal_of};
 ghost use Rattle.gz_spec.specs.Shards.{shard_of};
 ghost use Rattle.gz_spec.specs.Specs.{part_of};
@@ -21,7 +21,9 @@ fn put(
     name: &str,
     value: Value,
 ) -> Result<(), NoMemory>
-    ensures { OnOk result (members_view members.new.entries ≡ put name.now (view value) (members_view members.old.entries)) }
+    ensures { OnOk result
+        (members_view members.new.entries
+        ≡ put name.now (view value) (members_view members.old.entries)) }
 {
     members.insert(String::from_str(alloc, name)?, value)?;
     Ok(())
@@ -34,9 +36,10 @@ fn text_value(alloc: Global, text: &Name) -> Result<Value, NoMemory>
     Ok(value)
 }
 
-/// The values of the labels in front that have this name.
-fn values_in_front(alloc: Global, name: &Name, labels: &[Label]) -> Result<Vec<Value>, NoMemory>
-    ensures { IfOk result (λ values. map view values.items ≡ map string (values_in_front name.now labels.now)) }
+/// The values of the first labels, as long as they have this name.
+fn first_values(alloc: Global, name: &Name, labels: &[Label]) -> Result<Vec<Value>, NoMemory>
+    ensures { IfOk result
+        (λ values. map view values.items ≡ map string (first_values name.now labels.now)) }
 {
     let mut values = Vec::new(alloc);
     for label in labels {
@@ -49,18 +52,20 @@ fn values_in_front(alloc: Global, name: &Name, labels: &[Label]) -> Result<Vec<V
     Ok(values)
 }
 
-/// Puts the name of the first label with the values in front.
+/// Puts the name of the first label with the values of the first labels.
 fn put_first(
     alloc: Global,
     members: &mut Map<String, Value>,
     labels: &[Label],
 ) -> Result<(), NoMemory>
-    ensures { OnOk result (members_view members.new.entries ≡ with_first labels.now (members_view members.old.entries)) }
+    ensures { OnOk result
+        (members_view members.new.entries
+        ≡ with_first labels.now (members_view members.old.entries)) }
 {
     let Some(first) = labels.first() else {
         return Ok(());
     };
-    let values = values_in_front(alloc, &first.name, labels)?;
+    let values = first_values(alloc, &first.name, labels)?;
     put(alloc, members, first.name.as_str(), Value::Array(values))?;
     Ok(())
 }

@@ -4,11 +4,11 @@ use Rattle.std.proofs.lemmas.Grind.{common_steps}
 use Rattle.std.proofs.lemmas.Bool.{cond_both, cases_eq}
 use Rattle.gz_reader.specs.Reader.{updated}
 use Rattle.gz_reader.proofs.Updates.{upd_here, upd_other}
-use Rattle.gz_once.specs.Applications.{App, front, each_below}
+use Rattle.gz_once.specs.Applications.{App, prefix, each_below}
 use Rattle.gz_once.specs.Log.{Transaction, Entry, Handed, ack, needs, last, count, end_of}
 use Rattle.gz_once.specs.Processes.{Append, Handoff, Ack, Stand, Todo, Asked, Done, Playing, Handing, Acking, Reading, Process, Outcome, Item, Fed, Drew, Ask, Ask_at, Go, Good, Bad, Good_at, Bad_at, Begin, step, begins, acks, all_in, is_done}
 use Rattle.gz_once.specs.Worlds.{Slot, Waits, Landed, Refused, Shared, World, put, mark, land, sent, does, answered, reply, reply_at, outstanding, Event, Feed, Draw, Take, Poll, Poll_at, Next, Land, Reply, Reply_at, Restart, happens, run}
-use Rattle.gz_once.proofs.Texts.{front_all}
+use Rattle.gz_once.proofs.Texts.{prefix_all}
 use Rattle.gz_progress.specs.GoingOn.{hands_off, writes_one, writes_all, acknowledges, goes_on, IsReady, IsLater}
 
 pub run_two : (g : App) (es fs : List Event) (w : World) → run g (es ++ fs) w ≡ run g fs (run g es w)
@@ -83,8 +83,8 @@ module _ (g : App) (p : ℕ) where
 
     played : Sees w2 p s (record begins { text = s.log })
     played =
-        subst (λ (t : List Entry). Sees w2 p s (record begins { text = t })) (ap (λ (v : Shared). front (length s.log) v.log) begun.shared ∙ front_all (length s.log) s.log (omega arith))
-        (sees_does w1 s begins (Fed (front (length s.log) w1.shared.log)) begun)
+        subst (λ (t : List Entry). Sees w2 p s (record begins { text = t })) (ap (λ (v : Shared). prefix (length s.log) v.log) begun.shared ∙ prefix_all (length s.log) s.log (omega arith))
+        (sees_does w1 s begins (Fed (prefix (length s.log) w1.shared.log)) begun)
 
     may_draw : (nat_lt s.drawn d && not (g.foreign d)) ≡ true
     may_draw = let l = later.0 in let t : nat_lt s.drawn d ≡ true = grind (arith, common_steps) in rw (t, later.1) refl

@@ -16,6 +16,7 @@ pub fn the_next_process_goes_on()
 /// A process that is ready and in force, and of whose sources something was released, gets its commit into the log, whole
 /// and next, if its appends land and are answered.
 pub fn what_is_released_is_committed()
-    ensures { (g : App) (w : World) (process : ℕ) (extent : Extent) (to : ℕ → ℕ) → CanCommit g w process to →
+    ensures { (g : App) (w : World) (process : ℕ) (extent : Extent) (to : ℕ → ℕ) →
+        CanCommit g w process to →
         (run g (commits g w process extent to) w).shared.log ≡ Committed (transacted g w process extent to) ∷ w.shared.log }
 {}

@@ -12,7 +12,7 @@ use Rattle.gz_frame.specs.Release.{greater_of, greatest, greatest_from, is_above
 use Rattle.gz_frame.specs.Text.{messages_of}
 use Rattle.gz_sequencer.specs.Committed.{committed, messages_alone, released_in}
 use Rattle.gz_sequencer.specs.Transactions.{Line, Transaction, AreTransactions, NoneNewer, lines_in, messages_in_lines, text_of, text_of_lines}
-use Rattle.gz_sequencer.proofs.Produced.{AllOf, all_of_producer, messages_behind, of_all, of_released, released_behind, released_two}
+use Rattle.gz_sequencer.proofs.Produced.{AllOf, all_of_producer, messages_behind, of_all, of_released, released_behind}
 use Rattle.gz_sequencer.proofs.Transactions.{transactions_released}
 use Rattle.gz_promise.specs.Accounts.{Account, Commit, Stream}
 use Rattle.gz_promise.specs.Clients.{AllOutside, AreSingles, IsSource, read_from}
@@ -88,9 +88,9 @@ releases_if h m false out above = rw (out, above) refl
 own : (p : List ℕ) (h : List Message) (m : Message) → bytes_eq m.producer p ≡ true → AllOf p h → of_producer m.producer h ≡ h
 own p h m is all = ap (λ (q : List ℕ). of_producer q h) ((bytes_eq-Decides m.producer p).0 is) ∙ of_all p h all
 
-front_of : (p : List ℕ) (xs ys : List Message) → AllOf p (xs ++ ys) → AllOf p xs
-front_of p [] ys all = tt
-front_of p (x ∷ xs) ys all = (all.0, front_of p xs ys all.1)
+prefix_of : (p : List ℕ) (xs ys : List Message) → AllOf p (xs ++ ys) → AllOf p xs
+prefix_of p [] ys all = tt
+prefix_of p (x ∷ xs) ys all = (all.0, prefix_of p xs ys all.1)
 
 back_of : (p : List ℕ) (xs ys : List Message) → AllOf p (xs ++ ys) → AllOf p ys
 back_of p [] ys all = all
@@ -122,7 +122,7 @@ singles_released p (l ∷ ls) h top all are is singles =
     let next : greatest (h ++ m ∷ []) ≡ Some m.clock = greatest_more h m None singles.0 ∙ ap (λ (t : Option ℕ). greater_of t m.clock) is ∙ higher top m.clock singles.1 in
     ap (λ (ms : List Message). ms ++ released_behind (h ++ m ∷ []) (l.again ++ rest)) first
     ∙ ap (λ (ms : List Message). m ∷ ms)
-    (again_nothing p l.again rest (h ++ m ∷ []) m.clock (messages_in_lines ls) (both_of p h (m ∷ []) all (are.0, tt)) (front_of p l.again rest are.1) singles.2 singles.3 next
+    (again_nothing p l.again rest (h ++ m ∷ []) m.clock (messages_in_lines ls) (both_of p h (m ∷ []) all (are.0, tt)) (prefix_of p l.again rest are.1) singles.2 singles.3 next
     (λ g gall gtop. singles_released p ls g (Some m.clock) gall (back_of p l.again rest are.1) gtop singles.4))
 
 -- a client that writes messages that stand by themselves

@@ -20,20 +20,23 @@ ghost use Rattle.gz_promise.specs.Promise.{AreRead, ExactlyOnce, NothingCommitte
 /// commit's part is empty: no store and no outputs make that exactly once.
 #[tactic(auto, using(crate::proofs::Refused::nothing_refused))]
 pub fn what_takes_nothing_is_refused()
-    ensures { (app : App) (m n : Message) (first second store : State) (outputs : List (List Output)) →
+    ensures { (app : App) (m n : Message) (first second store : State)
+        (outputs : List (List Output)) →
         ExactlyOnce (takes_nothing app m n first second store outputs) → ⊥ }
 {}
 
 /// Of each source, what stands in the read order is what the commits' offsets have read of it.
 #[tactic(auto, using(crate::proofs::Orders::are_read))]
 pub fn a_read_order_has_what_offsets_say()
-    ensures { (a : Account) (once : ExactlyOnce a) → AreRead 0 a.commits a.sources (read_order a once) }
+    ensures { (a : Account) (once : ExactlyOnce a) →
+        AreRead 0 a.commits a.sources (read_order a once) }
 {}
 
 /// Where nothing is left to read, the read order is empty only if no source has committed anything.
 #[tactic(auto, using(crate::proofs::Orders::nothing_committed))]
 pub fn a_shard_at_rest_has_read()
-    ensures { (a : Account) (once : ExactlyOnce a) → ReadsAll a → read_order a once ≡ [] → NothingCommitted a.sources }
+    ensures { (a : Account) (once : ExactlyOnce a) → ReadsAll a → read_order a once ≡ [] →
+        NothingCommitted a.sources }
 {}
 
 /// The states of the commits and what readers accept speak of one order: a shard that has `a` before `b` in its states,
@@ -46,7 +49,8 @@ pub fn one_order_is_kept()
 /// A client writes transactions into a journal, and repeats lines as it likes: of its messages there, the read order of a
 /// shard that has the journal as a source has a prefix, each once, in the client's order.
 pub fn a_client_of_transactions_is_read_once()
-    ensures { (a : Account) (once : ExactlyOnce a) (k offset : ℕ) (text client : List ℕ) (ts : List Transaction) (waiting : List Line) →
+    ensures { (a : Account) (once : ExactlyOnce a) (k offset : ℕ) (text client : List ℕ)
+        (ts : List Transaction) (waiting : List Line) →
         IsSource k a.sources (record { from = offset; committed = committed offset text }) → AreTransactions None ts waiting →
         of_producer client (messages_alone (messages_of offset text)) ≡ text_of ts ++ text_of_lines waiting →
         IsPrefix (read_from k client (read_order a once)) (lines_in ts) }
@@ -54,7 +58,8 @@ pub fn a_client_of_transactions_is_read_once()
 
 /// The same of a client whose messages stand by themselves, one by one, and again as often as it likes.
 pub fn a_client_of_messages_is_read_once()
-    ensures { (a : Account) (once : ExactlyOnce a) (k offset : ℕ) (text client : List ℕ) (ls : List Line) →
+    ensures { (a : Account) (once : ExactlyOnce a) (k offset : ℕ) (text client : List ℕ)
+        (ls : List Line) →
         IsSource k a.sources (record { from = offset; committed = committed offset text }) → AreSingles None ls →
         of_producer client (messages_alone (messages_of offset text)) ≡ text_of_lines ls →
         IsPrefix (read_from k client (read_order a once)) (messages_in_lines ls) }
@@ -64,7 +69,8 @@ pub fn a_client_of_messages_is_read_once()
 /// in the read order, up to the greatest number of 64 bits.
 #[tactic(auto, using(crate::proofs::Counts::store_folds, crate::proofs::Counts::counts))]
 pub fn a_store_is_of_the_read_order()
-    ensures store { (a : Account) (once : ExactlyOnce a) → a.store ≡ folded a.app [] (messages_in (read_order a once)) }
+    ensures store { (a : Account) (once : ExactlyOnce a) →
+        a.store ≡ folded a.app [] (messages_in (read_order a once)) }
     ensures count { (a : Account) (once : ExactlyOnce a) (key : List ℕ) → a.app ≡ Count →
         number_at key a.store ≡ min (count_of key (messages_in (read_order a once))) (2 ^ 64 - 1) }
 {}

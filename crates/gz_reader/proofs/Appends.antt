@@ -6,9 +6,9 @@ use Rattle.gz_reader.specs.Reader.{values_of, Line, Message, Kind, Continue, Ack
 use Rattle.gz_reader.proofs.Updates.{upd_here, upd_other, upd_each}
 
 -- the clocks rise, from n on
-abbrev pub Rising : ℕ → List Line → Type 0
-Rising n [] = Unit {0}
-Rising n (l ∷ ls) = (n ≤ l.clock) × Rising (l.clock + 1) ls
+abbrev pub Ascending : ℕ → List Line → Type 0
+Ascending n [] = Unit {0}
+Ascending n (l ∷ ls) = (n ≤ l.clock) × Ascending (l.clock + 1) ls
 
 -- each clock is below n
 abbrev pub Below : ℕ → List Line → Type 0
@@ -19,15 +19,15 @@ pub below_up : (m n : ℕ) (ls : List Line) → m ≤ n → Below m ls → Below
 below_up m n [] l b = tt
 below_up m n (x ∷ ls) l b = (omega (arith, b.0), below_up m n ls l b.1)
 
-pub rising_down : (m n : ℕ) (ls : List Line) → m ≤ n → Rising n ls → Rising m ls
-rising_down m n [] l b = tt
-rising_down m n (x ∷ ls) l b = (omega (arith, b.0), b.1)
+pub ascending_down : (m n : ℕ) (ls : List Line) → m ≤ n → Ascending n ls → Ascending m ls
+ascending_down m n [] l b = tt
+ascending_down m n (x ∷ ls) l b = (omega (arith, b.0), b.1)
 
-pub above_le : (n : ℕ) (ls : List Line) → Rising n ls → n ≤ above n ls
+pub above_le : (n : ℕ) (ls : List Line) → Ascending n ls → n ≤ above n ls
 above_le n [] r = omega arith
 above_le n (l ∷ ls) r = let h = above_le (l.clock + 1) ls r.1 in omega (arith, r.0, h)
 
-pub below_above : (n : ℕ) (ls : List Line) → Rising n ls → Below (above n ls) ls
+pub below_above : (n : ℕ) (ls : List Line) → Ascending n ls → Below (above n ls) ls
 below_above n [] r = tt
 below_above n (l ∷ ls) r = let h = above_le (l.clock + 1) ls r.1 in (omega (arith, h), below_above (l.clock + 1) ls r.1)
 
@@ -43,15 +43,15 @@ low_lines r (l ∷ ls) b = cond_both (leb (above r.next r.chain) l.clock) _ _ (�
     (λ e. low_lines r ls b.1)
 
 -- lines that rise are the chain's end
-pub high_lines : (r : Rest) (ls : List Line) → Rising (above r.next r.chain) ls → take_lines r ls ≡ record { next = r.next; chain = r.chain ++ ls }
+pub high_lines : (r : Rest) (ls : List Line) → Ascending (above r.next r.chain) ls → take_lines r ls ≡ record { next = r.next; chain = r.chain ++ ls }
 high_lines r [] b = ap (λ c. record { next = r.next; chain = c }) (sym (append-nil r.chain))
 high_lines r (l ∷ ls) b = cond_both (leb (above r.next r.chain) l.clock) _ _ (λ x. take_lines x ls ≡ record { next = r.next; chain = r.chain ++ l ∷ ls })
     (λ e. let q : Rest = record { next = r.next; chain = r.chain ++ l ∷ [] } in
-    high_lines q ls (subst (λ n. Rising n ls) (sym (above_push r.next r.chain l)) b.1) ∙ ap (λ c. record { next = r.next; chain = c }) (append_assoc r.chain (l ∷ []) ls))
+    high_lines q ls (subst (λ n. Ascending n ls) (sym (above_push r.next r.chain l)) b.1) ∙ ap (λ c. record { next = r.next; chain = c }) (append_assoc r.chain (l ∷ []) ls))
     (λ e. absurd (let h = leb-false (above r.next r.chain) l.clock e in omega (arith, b.0)))
 
--- none of a rising list is up to a clock below its begin
-pub none_up_to : (p a n : ℕ) (ls : List Line) → Rising n ls → a < n → up_to p a ls ≡ []
+-- none of an ascending list is up to a clock below its begin
+pub none_up_to : (p a n : ℕ) (ls : List Line) → Ascending n ls → a < n → up_to p a ls ≡ []
 none_up_to p a n [] r l = refl
 none_up_to p a n (x ∷ ls) r l = cond_both (leb x.clock a) _ _ (λ v. v ≡ [])
     (λ e. absurd (let h = leb-true x.clock a e in omega (arith, r.0)))

@@ -14,7 +14,7 @@ use Rattle.gz_sequencer.specs.Parts.{Part, nothing, does_wait, ended, continued,
 use Rattle.gz_sequencer.proofs.PartLookups.{same_bytes}
 use Rattle.gz_sequencer.proofs.PartHistories.{Keeps, keeps_nothing, keeps_after, keeps_releases, released_of_line}
 use Rattle.gz_reader.specs.Reader.{Line, Kind, Continue, Acknowledge, Outside, Message, Rest, Reader, above, line_message, up_to, raise, take_line, take_ack, take_kind, takes, read, committed}
-use Rattle.gz_reader.specs.Coding.{Coding, TellsProducers, kind_of, coded, all_coded, told}
+use Rattle.gz_reader.specs.Coding.{Coding, TellsProducers, kind_of, coded, all_coded, text_after}
 use Rattle.gz_reader.proofs.Updates.{upd_here}
 use Rattle.gz_reader.proofs.Appends.{above_push, other_rest}
 
@@ -180,7 +180,7 @@ module _ (c : Coding) where
       differ x q e f = let k : bytes_eq q q ≡ false = ap (λ v. bytes_eq v q) (sym f) ∙ e in let t = (bytes_eq-Decides q q).1 refl in cc
 
   pub told_is : TellsProducers c → (ps : List Placed) (h : List frame.Message) (t : List Message) → Agrees h (read t) →
-      committed (told c t (messages_alone ps)) ≡ committed t ++ all_coded c (released_in (committed_after h ps))
+      committed (text_after c t (messages_alone ps)) ≡ committed t ++ all_coded c (released_in (committed_after h ps))
   told_is apart [] h t a = sym (append-nil (committed t))
   told_is apart (x ∷ ps) h t a =
       let m : frame.Message = x.message in

@@ -18,9 +18,6 @@ some_same {x = x} {y = y} e = cc
 pub none_some : {A : Type 0} {x : A} → None ≡ Some x → ⊥
 none_some {x = x} e = cc
 
-pub le_case : (a b : ℕ) → (a ≤ b) ⊎ (b < a)
-le_case a b = elim (cases_lt b a) [ inl l ↦ inr l | inr l ↦ inl l ]
-
 pub drop_append : {A : Type 0} (xs ys : List A) → drop (length xs) (xs ++ ys) ≡ ys
 drop_append [] ys = refl
 drop_append (x ∷ xs) ys = drop_append xs ys

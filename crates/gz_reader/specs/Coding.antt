@@ -26,13 +26,13 @@ all_coded c [] = []
 all_coded c (m ∷ ms) = coded c m ∷ all_coded c ms
 
 -- messages in order come to the end of a text
-abbrev pub told : Coding → List Message → List frame.Message → List Message
-told c text [] = text
-told c text (m ∷ ms) = told c (coded c m ∷ text) ms
+abbrev pub text_after : Coding → List Message → List frame.Message → List Message
+text_after c text [] = text
+text_after c text (m ∷ ms) = text_after c (coded c m ∷ text) ms
 
 -- the text of a journal, from an offset on, as the reader has it
 abbrev pub text_of : Coding → ℕ → List ℕ → List Message
-text_of c offset bytes = told c [] (messages_alone (messages_of offset bytes))
+text_of c offset bytes = text_after c [] (messages_alone (messages_of offset bytes))
 
 -- n doubled m times
 abbrev pub doubled : ℕ → ℕ → ℕ

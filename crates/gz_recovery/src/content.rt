@@ -21,7 +21,9 @@ fn put_member(
     name: &str,
     value: Value,
 ) -> Result<(), NoMemory>
-    ensures { OnOk result (members_view members.new.entries ≡ put name.now (view value) (members_view members.old.entries)) }
+    ensures { OnOk result
+        (members_view members.new.entries
+        ≡ put name.now (view value) (members_view members.old.entries)) }
 {
     members.insert(String::from_str(alloc, name)?, value)?;
     Ok(())
@@ -34,7 +36,9 @@ fn put_text(
     name: &str,
     text: &str,
 ) -> Result<(), NoMemory>
-    ensures { OnOk result (members_view members.new.entries ≡ put name.now (string text.now) (members_view members.old.entries)) }
+    ensures { OnOk result
+        (members_view members.new.entries
+        ≡ put name.now (string text.now) (members_view members.old.entries)) }
 {
     let value = Value::try_from_str(alloc, text)?;
     put_member(alloc, members, name, value)?;
@@ -48,7 +52,9 @@ fn put_number(
     name: &str,
     n: u64,
 ) -> Result<(), NoMemory>
-    ensures { OnOk result (members_view members.new.entries ≡ put name.now (number_data n) (members_view members.old.entries)) }
+    ensures { OnOk result
+        (members_view members.new.entries
+        ≡ put name.now (number_data n) (members_view members.old.entries)) }
 {
     let value = Value::from(n);
     put_member(alloc, members, name, value)?;
@@ -57,7 +63,8 @@ fn put_number(
 
 /// Puts the members that say what an operation does.
 fn put_kind(alloc: Global, members: &mut Map<String, Value>, kind: &OpKind) -> Result<(), NoMemory>
-    ensures members { OnOk result (members_view members.new.entries ≡ kind_put kind.now (members_view members.old.entries)) }
+    ensures members { OnOk result
+        (members_view members.new.entries ≡ kind_put kind.now (members_view members.old.entries)) }
     ensures short { OnOk result (length (path_of kind.now) ≤ max_path) }
 {
     match kind {

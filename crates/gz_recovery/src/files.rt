@@ -107,7 +107,8 @@ impl Files {
     /// The path names the node, in place of the one that it named. BadOp exactly where the node isn't live.
     fn link(&mut self, fnode: u64, path: &Name) -> Result<(), FsmError>
         requires { IfSome (live fnode self.old.nodes) (λ node. node.links ≤ max_seq) }
-        ensures { Becomes result self.old self.new (link_to fnode path.now self.old (live fnode self.old.nodes)) }
+        ensures { Becomes result self.old self.new
+            (link_to fnode path.now self.old (live fnode self.old.nodes)) }
     {
         let Some(links) = self.links(fnode) else {
             return Err(FsmError::BadOp);
@@ -141,7 +142,8 @@ impl Files {
 
     /// Puts the text at the end of the node's, if it is live. After NoMemory nothing has changed.
     fn append(&mut self, fnode: u64, text: &Text) -> Result<(), NoMemory>
-        ensures ok { OnOk result (self.new ≡ record self.old { nodes = appended fnode text.now self.old.nodes }) }
+        ensures ok { OnOk result
+            (self.new ≡ record self.old { nodes = appended fnode text.now self.old.nodes }) }
         ensures err { OnErr result (self.new ≡ self.old) }
     {
         if let Some(node) = self.nodes.get_mut(&fnode) {
@@ -152,7 +154,8 @@ impl Files {
 
     /// Puts the text at the end of the node's. BadOp exactly where the node isn't live or doesn't end at the offset.
     fn write(&mut self, fnode: u64, offset: u64, text: &Text) -> Result<(), FsmError>
-        ensures { Becomes result self.old self.new (write_to fnode offset text.now self.old (live fnode self.old.nodes)) }
+        ensures { Becomes result self.old self.new
+            (write_to fnode offset text.now self.old (live fnode self.old.nodes)) }
     {
         let Some(len) = self.len(fnode) else {
             return Err(FsmError::BadOp);
@@ -166,7 +169,8 @@ impl Files {
 
     /// The property of this path has this text.
     fn set_property(&mut self, path: &Name, text: &Text) -> Result<(), FsmError>
-        ensures { Becomes result self.old self.new (Some (with_property path.now text.now self.old)) }
+        ensures { Becomes result self.old self.new
+            (Some (with_property path.now text.now self.old)) }
     {
         let path = path.copy()?;
         let text = text.copy()?;
@@ -206,7 +210,8 @@ impl Files {
 
     /// The path at this place, from 0, in path order, and its node.
     fn nth_path(&self, place: usize) -> Option<(&Name, u64)>
-        ensures { option_map (λ entry. (entry.0.now, entry.1)) result ≡ slice_get self.now.paths place }
+        ensures { option_map
+            (λ entry. (entry.0.now, entry.1)) result ≡ slice_get self.now.paths place }
     {
         let mut left = place;
         for (path, fnode) in self.paths.iter() {

@@ -54,7 +54,8 @@ impl Fsm {
 
     /// Path and text of the file at this place, from 0, in path order; None past the last one. It takes no memory.
     pub fn file(&self, place: usize) -> Option<(&Name, &Blob)>
-        ensures { option_map (λ file. (file.0.now, file.1.now)) result ≡ nth_file place self.now.files }
+        ensures { option_map
+            (λ file. (file.0.now, file.1.now)) result ≡ nth_file place self.now.files }
     {
         self.files.nth(place)
     }

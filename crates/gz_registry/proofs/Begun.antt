@@ -195,18 +195,18 @@ others_each : (bs : List MemberSpec) (cs : List MemberSpec) → Each (λ m. is_u
 others_each bs [] each = tt
 others_each bs (c ∷ cs) each = (each_in_order (IsNot c.id) (map (member_named false) bs) (other_brokers false c.id bs each.0), others_each bs cs each.1)
 
--- those in front of others
-front_apart : (j : Joined) (js ks : List Joined) → Each (IsNotOne (j ∷ js)) ks → Each (IsNot j.spec.id) ks × Each (IsNotOne js) ks
-front_apart j js [] each = (tt, tt)
-front_apart j js (k ∷ ks) each =
-    let rest = front_apart j js ks each.1 in
+-- those before others
+prefix_apart : (j : Joined) (js ks : List Joined) → Each (IsNotOne (j ∷ js)) ks → Each (IsNot j.spec.id) ks × Each (IsNotOne js) ks
+prefix_apart j js [] each = (tt, tt)
+prefix_apart j js (k ∷ ks) each =
+    let rest = prefix_apart j js ks each.1 in
     ((turned k.spec.id j.spec.id each.0.0, rest.0), (each.0.1, rest.1))
 
 differ_append : (js ks : List Joined) → Differ js → Differ ks → Each (IsNotOne js) ks → Differ (js ++ ks)
-differ_append [] ks front back across = back
-differ_append (j ∷ js) ks front back across =
-    let parts = front_apart j js ks across in
-    (each_append (IsNot j.spec.id) js ks front.0 parts.0, differ_append js ks front.1 back parts.1)
+differ_append [] ks prefix back across = back
+differ_append (j ∷ js) ks prefix back across =
+    let parts = prefix_apart j js ks across in
+    (each_append (IsNot j.spec.id) js ks prefix.0 parts.0, differ_append js ks prefix.1 back parts.1)
 
 apart_each : (name : List ℕ) (js : List Joined) → Each (IsNot name) js → IsApart name js
 apart_each name [] each = tt

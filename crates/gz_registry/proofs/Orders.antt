@@ -45,8 +45,8 @@ pub each_in_order : {A : Type 0} (P : A → Type 0) (named : List (List ℕ × A
 each_in_order P named each = of_values P (put_named named []) (put_each P named [] each tt)
 
 pub each_append : {A : Type 0} (P : A → Type 0) (xs ys : List A) → Each P xs → Each P ys → Each P (xs ++ ys)
-each_append P [] ys front back = back
-each_append P (x ∷ xs) ys front back = (front.0, each_append P xs ys front.1 back)
+each_append P [] ys prefix back = back
+each_append P (x ∷ xs) ys prefix back = (prefix.0, each_append P xs ys prefix.1 back)
 
 -- ---- how many there are
 

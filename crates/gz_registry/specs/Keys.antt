@@ -12,12 +12,12 @@ use Rattle.gz_keyspace.specs.Space.{put_of}
 
 -- ---- order
 
--- these things, each beside its name, put one after another among those that are in rising order of their names
+-- these things, each beside its name, put one after another among those that are in ascending order of their names
 abbrev pub put_named : {A : Type 0} → List (List ℕ × A) → List (List ℕ × A) → List (List ℕ × A)
 put_named [] sorted = sorted
 put_named (e ∷ es) sorted = put_named es (insert_entry (slice_cmp nat_cmp) sorted e.0 e.1)
 
--- these things, each beside its name, in rising order of their names
+-- these things, each beside its name, in ascending order of their names
 abbrev pub in_order : {A : Type 0} → List (List ℕ × A) → List A
 in_order named = values_of (put_named named [])
 

@@ -3,7 +3,7 @@ use Rattle.std.specs.Prelude.{◌≡◌, Result, Ok, Err, ⊤}
 use Rattle.gz_registry.specs.declared.error.RegistryError.{RegistryError}
 use Rattle.gz_registry.specs.declared.error.RegistryError.TheVariants.{MembersFull, NoMember, KeysEnd, NoMemory}
 
--- a refusal is the one that is to come, or the want of memory
+-- a refusal is the one that is to come, or out of memory
 abbrev pub Fails : {Y : Type 0} → RegistryError → Result Y RegistryError → Type 0
 Fails MembersFull answer = answer ≡ Err MembersFull
 Fails NoMember answer = answer ≡ Err NoMember

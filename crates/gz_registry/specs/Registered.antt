@@ -37,22 +37,22 @@ was_member name members = is_some (lease_of name members)
 -- ---- answers
 
 -- the answer of the key space, which refuses a change at its last revision alone
-abbrev pub told : Result ℕ KeyError → Result ℕ RegistryError
-told (Ok revision) = Ok revision
-told (Err e) = Err KeysEnd
+abbrev pub key_answer : Result ℕ KeyError → Result ℕ RegistryError
+key_answer (Ok revision) = Ok revision
+key_answer (Err e) = Err KeysEnd
 
 -- the answer to a part of specifications: the new revision, or the old one where it names nothing
 abbrev pub put_answer : Specs → Registered → Result ℕ RegistryError
-put_answer part r = told (made_revision (writes_of part) r.keys.changes)
+put_answer part r = key_answer (made_revision (writes_of part) r.keys.changes)
 
 -- the answer to one who joins: the lease. As many as a cluster may have ever join.
 abbrev pub join_answer : Registered → Result ℕ RegistryError
-join_answer r = if nat_le max_members (length r.members) then Err MembersFull else told (next_revision r.keys.changes)
+join_answer r = if nat_le max_members (length r.members) then Err MembersFull else key_answer (next_revision r.keys.changes)
 
 -- the answer where this key of a live lease is to be deleted
 abbrev pub ended_answer : Option (List ℕ) → List Change → Result ℕ RegistryError
 ended_answer None changes = Err NoMember
-ended_answer (Some key) changes = told (next_revision changes)
+ended_answer (Some key) changes = key_answer (next_revision changes)
 
 abbrev pub lease_answer : Option ℕ → Space → Result ℕ RegistryError
 lease_answer None keys = Err NoMember

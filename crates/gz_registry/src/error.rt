@@ -3,6 +3,8 @@ ghost use Rattle.std.specs.Prelude.{◌≡◌};
 
 use gz_label::NoMemory;
 use std::alloc::{AllocError, AllocFailed};
+use std::error::Error;
+use std::fmt;
 
 /// Why a call on a registry is refused.
 #[derive(Debug, Drop)]
@@ -16,6 +18,19 @@ pub enum RegistryError {
     /// Memory ran out.
     NoMemory,
 }
+
+impl fmt::Display for RegistryError {
+    fn fmt<W: fmt::Write>(&self, f: &mut fmt::Formatter<W>) -> fmt::Result {
+        match self {
+            RegistryError::MembersFull => write!(f, "64 members have joined"),
+            RegistryError::NoMember => write!(f, "no member of the name has a live lease"),
+            RegistryError::KeysEnd => write!(f, "the revision is at its end"),
+            RegistryError::NoMemory => write!(f, "out of memory"),
+        }
+    }
+}
+
+impl Error for RegistryError {}
 
 impl From<NoMemory> for RegistryError {
     ghost use Rattle.std.specs.Prelude.{◌≡◌};

@@ -57,7 +57,9 @@ impl Registry {
     /// The key's value and the revision of the change that put it; none exactly where the key is absent. It
     /// takes no memory.
     pub fn get(&self, key: &Name) -> Option<(&Blob, u64)>
-        ensures { option_map (λ found. record { value = found.0.now; mod_revision = found.1 }) result ≡ held_at key.now (keys_after self.now.keys.changes) }
+        ensures { option_map
+            (λ found. record { value = found.0.now; mod_revision = found.1 }) result
+            ≡ held_at key.now (keys_after self.now.keys.changes) }
     {
         self.keys.get(key)
     }

@@ -6,7 +6,7 @@ ghost use Rattle.indexmap.specs.IndexMap.{spare};
 ghost use Rattle.gz_keyspace.specs.Keys.{same_key, held_at, keys_after};
 ghost use Rattle.gz_keyspace.specs.Space.{last_revision, revision_of, next_revision, made_revision, after_txn, after_grant, after_expire, key_of_lease};
 ghost use Rattle.gz_registry.specs.Outcomes.{Gives};
-ghost use Rattle.gz_registry.specs.Registered.{seen, told, ended_answer, expire_answer, after_expiry, was_member, members_in, after_join, each_written, each_joined, OnlyMembers, AreNew};
+ghost use Rattle.gz_registry.specs.Registered.{seen, key_answer, ended_answer, expire_answer, after_expiry, was_member, members_in, after_join, each_written, each_joined, OnlyMembers, AreNew};
 
 use crate::RegistryError;
 use crate::writes::member_key;
@@ -17,7 +17,7 @@ use std::slice;
 
 /// One transaction without compares.
 pub fn write_all(keys: &mut KeySpace, writes: &[KeyWrite]) -> Result<u64, RegistryError>
-    ensures answer { Gives result (told (made_revision writes.now keys.old.changes)) }
+    ensures answer { Gives result (key_answer (made_revision writes.now keys.old.changes)) }
     ensures ok { OnOk result (keys.new ≡ after_txn writes.now keys.old) }
     ensures err { OnErr result (keys.new ≡ keys.old) }
 {
@@ -32,7 +32,7 @@ pub fn write_all(keys: &mut KeySpace, writes: &[KeyWrite]) -> Result<u64, Regist
 // A grant of a key that is absent.
 fn grant(keys: &mut KeySpace, key: Name, value: Blob) -> Result<u64, RegistryError>
     requires { held_at key (keys_after keys.old.changes) ≡ None }
-    ensures answer { Gives result (told (next_revision keys.old.changes)) }
+    ensures answer { Gives result (key_answer (next_revision keys.old.changes)) }
     ensures lease { IfOk result (λ lease. lease ≡ revision_of keys.new.changes) }
     ensures ok { OnOk result (keys.new ≡ after_grant key value keys.old) }
     ensures err { OnErr result (keys.new ≡ keys.old) }
@@ -47,7 +47,8 @@ fn grant(keys: &mut KeySpace, key: Name, value: Blob) -> Result<u64, RegistryErr
 
 // The end of a lease.
 fn end_lease(keys: &mut KeySpace, lease: u64) -> Result<u64, RegistryError>
-    ensures answer { Gives result (ended_answer (key_of_lease lease keys.old.leases) keys.old.changes) }
+    ensures answer { Gives result
+        (ended_answer (key_of_lease lease keys.old.leases) keys.old.changes) }
     ensures ok { OnOk result (keys.new ≡ after_expire lease keys.old) }
     ensures err { OnErr result (keys.new ≡ keys.old) }
 {
@@ -68,7 +69,9 @@ pub fn end_member(
     name: &Name,
 ) -> Result<u64, RegistryError>
     ensures answer { Gives result (expire_answer name.now (seen keys.old members.now.entries)) }
-    ensures ok { OnOk result (seen keys.new members.now.entries ≡ after_expiry name.now (seen keys.old members.now.entries)) }
+    ensures ok { OnOk result
+        (seen keys.new members.now.entries
+        ≡ after_expiry name.now (seen keys.old members.now.entries)) }
     ensures err { OnErr result (keys.new ≡ keys.old) }
 {
     match members.get(name) {
@@ -98,9 +101,12 @@ pub fn admit(
 ) -> Result<u64, RegistryError>
     requires new { was_member joined.now.spec.id (members_in members.old.entries) ≡ false }
     requires only { OnlyMembers (seen keys.old members.old.entries) }
-    ensures answer { Gives result (told (next_revision keys.old.changes)) }
-    ensures ok { OnOk result (seen keys.new members.new.entries ≡ after_join joined.now (seen keys.old members.old.entries)) }
-    ensures err { OnErr result (seen keys.new members.new.entries ≡ seen keys.old members.old.entries) }
+    ensures answer { Gives result (key_answer (next_revision keys.old.changes)) }
+    ensures ok { OnOk result
+        (seen keys.new members.new.entries
+        ≡ after_join joined.now (seen keys.old members.old.entries)) }
+    ensures err { OnErr result
+        (seen keys.new members.new.entries ≡ seen keys.old members.old.entries) }
 {
     let alloc = *members.allocator();
     let key = member_key(alloc, &joined.spec.id)?;
@@ -145,7 +151,9 @@ fn admit_one(
     requires new { was_member joined.now.spec.id (members_in members.old.entries) ≡ false }
     requires only { OnlyMembers (seen keys.old members.old.entries) }
     requires room { revision_of keys.old.changes < last_revision }
-    ensures { OnOk result (seen keys.new members.new.entries ≡ after_join joined.now (seen keys.old members.old.entries)) }
+    ensures { OnOk result
+        (seen keys.new members.new.entries
+        ≡ after_join joined.now (seen keys.old members.old.entries)) }
 {
     match admit(keys, members, joined) {
         Ok(_) => Ok(()),
@@ -163,7 +171,9 @@ pub fn admit_each(
     requires new { AreNew joined.now (members_in members.old.entries) }
     requires only { OnlyMembers (seen keys.old members.old.entries) }
     requires room { revision_of keys.old.changes + length joined.now ≤ last_revision }
-    ensures value { OnOk result (seen keys.new members.new.entries ≡ each_joined joined.now (seen keys.old members.old.entries)) }
+    ensures value { OnOk result
+        (seen keys.new members.new.entries
+        ≡ each_joined joined.now (seen keys.old members.old.entries)) }
     ensures only { OnOk result (OnlyMembers (seen keys.new members.new.entries)) }
 {
     for one in joined {

@@ -15,7 +15,8 @@ use std::alloc::Global;
 /// The key space with the writes of the specifications, each in a transaction of its own.
 #[tactic(auto, using(crate::proofs::Begun::only_begun, crate::proofs::Begun::begun_revision))]
 pub fn start_keys(alloc: Global, specs: &Specs) -> Result<KeySpace, NoMemory>
-    ensures value { IfOk result (λ keys. keys ≡ each_written (writes_of specs.now) (record { changes = []; leases = [] })) }
+    ensures value { IfOk result
+        (λ keys. keys ≡ each_written (writes_of specs.now) (record { changes = []; leases = [] })) }
     ensures only { IfOk result (λ keys. OnlyMembers (seen keys [])) }
     ensures few { IfOk result (λ keys. revision_of keys.changes ≤ 1280) }
 {
@@ -33,7 +34,9 @@ pub fn start_members(
 ) -> Result<IndexMap<Name, u64>, NoMemory>
     requires only { OnlyMembers (seen keys.old []) }
     requires few { revision_of keys.old.changes ≤ 1280 }
-    ensures value { IfOk result (λ members. seen keys.new members.entries ≡ each_joined (members_of specs.now) (seen keys.old [])) }
+    ensures value { IfOk result
+        (λ members. seen keys.new members.entries
+        ≡ each_joined (members_of specs.now) (seen keys.old [])) }
     ensures only { IfOk result (λ members. OnlyMembers (seen keys.new members.entries)) }
 {
     let mut members = IndexMap::new(alloc);

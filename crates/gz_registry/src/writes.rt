@@ -88,7 +88,8 @@ fn member_table(
     consumer: bool,
     members: &[MemberSpec],
 ) -> Result<BTreeMap<Name, Joined>, NoMemory>
-    ensures { IfOk result (λ table. table.entries ≡ put_named (map (member_named consumer) members.now) []) }
+    ensures { IfOk result
+        (λ table. table.entries ≡ put_named (map (member_named consumer) members.now) []) }
 {
     let mut table = BTreeMap::new(alloc);
     for member in members {

@@ -65,9 +65,9 @@ draft_again path m h =
     let clock = nat_le m.clock max_clock in
     let key = is_short_text max_key m.key in
     let value = is_short_text max_value m.value in
-    let front = left (clock && key) value h in
+    let prefix = left (clock && key) value h in
     fields_again path m.flag m.clock m.key m.value
-    (left clock key front) (short_again max_key m.key (right clock key front))
+    (left clock key prefix) (short_again max_key m.key (right clock key prefix))
     (short_again max_value m.value (right (clock && key) value h))
 
 drafts_again : (path : List ℕ) (i : ℕ) (ms : List Draft) → list_all is_draft ms ≡ true → drafts_from path i (items_of (map draft_data ms)) ≡ Ok ms

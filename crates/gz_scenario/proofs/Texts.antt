@@ -269,21 +269,21 @@ up_to_le : (bs : List ℕ) (n : ℕ) → valid_len_up_to bs n ≤ n
 up_to_le bs zero = omega arith
 up_to_le bs (suc n) = up_to_turn bs n (is_utf8 (take (suc n) bs)) (up_to_le bs n)
 
-front_utf8 : (bs : List ℕ) (n : ℕ) (t : Bool) → is_utf8 (take (suc n) bs) ≡ t → cond t (suc n) (valid_len_up_to bs n) ≡ suc n
+prefix_utf8 : (bs : List ℕ) (n : ℕ) (t : Bool) → is_utf8 (take (suc n) bs) ≡ t → cond t (suc n) (valid_len_up_to bs n) ≡ suc n
     → IsUtf8 (take (suc n) bs)
-front_utf8 bs n true e is = IsUtf8-from_is_utf8 (take (suc n) bs) e
-front_utf8 bs n false e is =
+prefix_utf8 bs n true e is = IsUtf8-from_is_utf8 (take (suc n) bs) e
+prefix_utf8 bs n false e is =
     let same : valid_len_up_to bs n ≡ suc n = is in
     let below : valid_len_up_to bs n ≤ n = up_to_le bs n in
     absurd (omega (arith, same, below))
 
-whole_front : (bs : List ℕ) (n : ℕ) → valid_len_up_to bs n ≡ n → IsUtf8 (take n bs)
-whole_front bs zero is = IsUtf8-nil
-whole_front bs (suc n) is = front_utf8 bs n (is_utf8 (take (suc n) bs)) refl is
+whole_prefix : (bs : List ℕ) (n : ℕ) → valid_len_up_to bs n ≡ n → IsUtf8 (take n bs)
+whole_prefix bs zero is = IsUtf8-nil
+whole_prefix bs (suc n) is = prefix_utf8 bs n (is_utf8 (take (suc n) bs)) refl is
 
 valid_is_utf8 : (bs : List ℕ) → utf8_valid_len bs ≡ length bs → IsUtf8 bs
 unfolding utf8_valid_len
-valid_is_utf8 bs is = subst IsUtf8 (take_all (length bs) bs (omega arith)) (whole_front bs (length bs) is)
+valid_is_utf8 bs is = subst IsUtf8 (take_all (length bs) bs (omega arith)) (whole_prefix bs (length bs) is)
 
 json_turn : (bytes : List ℕ) (t : Bool) (d : Data) → (utf8_valid_len bytes == length bytes) ≡ t
     → cond t (read bytes) None ≡ Some d → utf8_data d ≡ true

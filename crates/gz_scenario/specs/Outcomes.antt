@@ -3,7 +3,7 @@ use Rattle.std.specs.Prelude.{◌≡◌, Result, Ok, Err, ⊤}
 use Rattle.gz_scenario.specs.declared.error.ScenarioError.{ScenarioError}
 use Rattle.gz_scenario.specs.declared.error.ScenarioError.TheVariants.{Limit, NotJson, Unknown, BadField, NoMemory}
 
--- an error is the one that reading gives, with its line and its path, or the want of memory
+-- an error is the one that reading gives, with its line and its path, or out of memory
 abbrev pub Fails : {Y : Type 0} → ScenarioError → Result Y ScenarioError → Type 0
 Fails (Limit line) read = read ≡ Err (Limit line)
 Fails (NotJson line) read = read ≡ Err (NotJson line)

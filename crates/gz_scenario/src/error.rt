@@ -6,6 +6,8 @@ use gz_fields::FieldError;
 use gz_label::{Blob, NoMemory};
 use gz_links::SpecError;
 use std::alloc::{AllocError, AllocFailed, Global};
+use std::error::Error;
+use std::fmt;
 
 /// Why a line is refused. Lines are counted from 1.
 #[derive(Debug, Drop)]
@@ -23,6 +25,20 @@ pub enum ScenarioError {
     /// Memory ran out.
     NoMemory,
 }
+
+impl fmt::Display for ScenarioError {
+    fn fmt<W: fmt::Write>(&self, f: &mut fmt::Formatter<W>) -> fmt::Result {
+        match self {
+            ScenarioError::Limit { line } => write!(f, "line {line}: limit"),
+            ScenarioError::NotJson { line } => write!(f, "line {line}: not JSON"),
+            ScenarioError::Unknown { line } => write!(f, "line {line}: unknown event"),
+            ScenarioError::BadField { line, path } => write!(f, "line {line}: bad field {path}"),
+            ScenarioError::NoMemory => write!(f, "no memory"),
+        }
+    }
+}
+
+impl Error for ScenarioError {}
 
 impl From<NoMemory> for ScenarioError {
     ghost use Rattle.std.specs.Prelude.{◌≡◌};
@@ -66,8 +82,8 @@ pub fn bad_specs(line: u64, error: SpecError) -> ScenarioError
 fn about(alloc: Global, line: u64, words: &[u8]) -> Result<Blob, NoMemory>
     ensures { IfOk result (λ text. text ≡ about line words.now) }
 {
-    let front = format!(in alloc; "line {line}: ")?;
-    let mut text = Blob::of(alloc, front.as_str().as_bytes())?;
+    let prefix = format!(in alloc; "line {line}: ")?;
+    let mut text = Blob::of(alloc, prefix.as_str().as_bytes())?;
     text.append(words)?;
     Ok(text)
 }

@@ -1,4 +1,11 @@
 //! Scenarios: each line is an event, and the first one has the specifications that it begins with.
+//!
+//! ```text
+//! match read_event(alloc, number, line) {
+//!     Ok(event) => { .. }                                      // print_event gives a line that reads back
+//!     Err(error) => { .. }                                     // error.print(alloc): `line 7: bad field messages[2].clock`
+//! }
+//! ```
 #![tactic(auto)]
 
 mod change;

@@ -49,7 +49,8 @@ fn value_of_draft(alloc: Global, draft: &Draft) -> Result<Value, NoMemory>
 }
 
 fn values_of_drafts(alloc: Global, drafts: &[Draft]) -> Result<Vec<Value>, NoMemory>
-    ensures { IfOk result (λ values. items_view values.items ≡ items_of (map draft_data drafts.now)) }
+    ensures { IfOk result
+        (λ values. items_view values.items ≡ items_of (map draft_data drafts.now)) }
 {
     let mut values = Vec::new(alloc);
     for draft in drafts {
@@ -90,7 +91,8 @@ fn value_of_publish(alloc: Global, publish: &Publish) -> Result<Value, NoMemory>
 #[tactic(auto, using(crate::proofs::Floats::publish_no_float, crate::proofs::Again::publish_line))]
 pub fn print_publish(alloc: Global, publish: &Publish) -> Result<Blob, NoMemory>
     ensures text { IfOk result (λ line. line ≡ compact_text (publish_data publish.now)) }
-    ensures reads_back { IfOk result (λ line. IsTrue (is_publish publish.now) → IsLine (event.Publish publish.now) line) }
+    ensures reads_back { IfOk result
+        (λ line. IsTrue (is_publish publish.now) → IsLine (event.Publish publish.now) line) }
 {
     let value = value_of_publish(alloc, publish)?;
     let line = gz_json::print(alloc, &value)?;
@@ -142,7 +144,8 @@ fn value_of_apply(alloc: Global, part: &Specs) -> Result<Value, NoMemory>
 #[tactic(auto, using(crate::proofs::Floats::apply_no_float, crate::proofs::Again::apply_line))]
 pub fn print_apply(alloc: Global, part: &Specs) -> Result<Blob, NoMemory>
     ensures text { IfOk result (λ line. line ≡ compact_text (apply_data part.now)) }
-    ensures reads_back { IfOk result (λ line. IsTrue (is_apply part.now) → IsLine (event.Apply part.now) line) }
+    ensures reads_back { IfOk result
+        (λ line. IsTrue (is_apply part.now) → IsLine (event.Apply part.now) line) }
 {
     let value = value_of_apply(alloc, part)?;
     let line = gz_json::print(alloc, &value)?;
@@ -151,7 +154,10 @@ pub fn print_apply(alloc: Global, part: &Specs) -> Result<Blob, NoMemory>
 
 /// A join of this member, as what is named so.
 fn value_of_joining(alloc: Global, kind: &str, joiner: &MemberSpec) -> Result<Value, NoMemory>
-    ensures { IfOk result (λ value. view value ≡ object (put (codes "do") (string (codes "join")) (member kind.now (member_data joiner.now) no_members))) }
+    ensures { IfOk result
+        (λ value. view value
+        ≡ object (put (codes "do") (string (codes "join"))
+        (member kind.now (member_data joiner.now) no_members))) }
 {
     let joiner = member_value(alloc, joiner)?;
     let mut members = Map::new(alloc);
@@ -178,7 +184,8 @@ fn value_of_join(alloc: Global, join: &Join) -> Result<Value, NoMemory>
 #[tactic(auto, using(crate::proofs::Floats::join_no_float, crate::proofs::Again::join_line))]
 pub fn print_join(alloc: Global, join: &Join) -> Result<Blob, NoMemory>
     ensures text { IfOk result (λ line. line ≡ compact_text (join_data join.now)) }
-    ensures reads_back { IfOk result (λ line. IsTrue (is_joiner join.now.member) → IsLine (event.Join join.now) line) }
+    ensures reads_back { IfOk result
+        (λ line. IsTrue (is_joiner join.now.member) → IsLine (event.Join join.now) line) }
 {
     let value = value_of_join(alloc, join)?;
     let line = gz_json::print(alloc, &value)?;
@@ -206,7 +213,8 @@ fn value_of_expire(alloc: Global, id: &Name) -> Result<Value, NoMemory>
 #[tactic(auto, using(crate::proofs::Floats::expire_no_float, crate::proofs::Again::expire_line))]
 pub fn print_expire(alloc: Global, id: &Name) -> Result<Blob, NoMemory>
     ensures text { IfOk result (λ line. line ≡ compact_text (expire_data id.now)) }
-    ensures reads_back { IfOk result (λ line. IsTrue (is_id id.now) → IsLine (event.Expire id.now) line) }
+    ensures reads_back { IfOk result
+        (λ line. IsTrue (is_id id.now) → IsLine (event.Expire id.now) line) }
 {
     let value = value_of_expire(alloc, id)?;
     let line = gz_json::print(alloc, &value)?;
@@ -216,8 +224,10 @@ pub fn print_expire(alloc: Global, id: &Name) -> Result<Blob, NoMemory>
 /// The line of the specifications that a scenario begins with, without its newline.
 #[tactic(auto, using(crate::proofs::Again::start_line))]
 fn print_start(alloc: Global, specs: &Specs) -> Result<Blob, NoMemory>
-    ensures text { IfOk result (λ line. line ≡ compact_text (specs_data_as (codes "specs") specs.now)) }
-    ensures reads_back { IfOk result (λ line. IsTrue (is_start specs.now) → IsLine (event.Specs specs.now) line) }
+    ensures text { IfOk result
+        (λ line. line ≡ compact_text (specs_data_as (codes "specs") specs.now)) }
+    ensures reads_back { IfOk result
+        (λ line. IsTrue (is_start specs.now) → IsLine (event.Specs specs.now) line) }
 {
     let line = print_specs_as(alloc, "specs", specs)?;
     Ok(line)

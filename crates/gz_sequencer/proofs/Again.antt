@@ -10,7 +10,7 @@ use Rattle.gz_sequencer.specs.Parts.{Part, nothing, does_wait, with_waiting, end
 use Rattle.gz_sequencer.specs.Machine.{mark_of, part_at}
 use Rattle.gz_sequencer.proofs.PartLookups.{part_step, part_after_all}
 use Rattle.gz_sequencer.proofs.PartHistories.{AllFrom}
-use Rattle.gz_sequencer.proofs.Placement.{AllBelow, Rising}
+use Rattle.gz_sequencer.proofs.Placement.{AllBelow, Ascending}
 
 pub is_below : (m n : ℕ) → m < n → nat_lt m n ≡ true
 is_below m n h = grind (arith, common_steps)
@@ -115,31 +115,31 @@ pub run_append : (xs ys : List Placed) (until : ℕ) (part : Part) → part_afte
 run_append [] ys until part = refl
 run_append (x ∷ xs) ys until part = run_append xs ys until (part_step until part x)
 
-from_front : (xs : List Placed) (p : Placed) (n : ℕ) → AllFrom n (xs ++ p ∷ []) → AllFrom n xs × (n ≤ p.begin)
-from_front [] p n all = (tt, all.0)
-from_front (x ∷ xs) p n all = ((all.0, (from_front xs p n all.1).0), (from_front xs p n all.1).1)
+from_prefix : (xs : List Placed) (p : Placed) (n : ℕ) → AllFrom n (xs ++ p ∷ []) → AllFrom n xs × (n ≤ p.begin)
+from_prefix [] p n all = (tt, all.0)
+from_prefix (x ∷ xs) p n all = ((all.0, (from_prefix xs p n all.1).0), (from_prefix xs p n all.1).1)
 
-below_front : (xs : List Placed) (p : Placed) (n : ℕ) → AllBelow n (xs ++ p ∷ []) → AllBelow n xs × (p.begin < n)
-below_front [] p n all = (tt, all.0)
-below_front (x ∷ xs) p n all = ((all.0, (below_front xs p n all.1).0), (below_front xs p n all.1).1)
+below_prefix : (xs : List Placed) (p : Placed) (n : ℕ) → AllBelow n (xs ++ p ∷ []) → AllBelow n xs × (p.begin < n)
+below_prefix [] p n all = (tt, all.0)
+below_prefix (x ∷ xs) p n all = ((all.0, (below_prefix xs p n all.1).0), (below_prefix xs p n all.1).1)
 
-rising_front : (xs : List Placed) (p : Placed) → Rising (xs ++ p ∷ []) → Rising xs × AllBelow p.begin xs
-rising_front [] p all = (tt, tt)
-rising_front (x ∷ xs) p all =
-    let here : AllFrom (x.begin + 1) xs × (x.begin + 1 ≤ p.begin) = from_front xs p (x.begin + 1) all.0 in
-    let more : Rising xs × AllBelow p.begin xs = rising_front xs p all.1 in
+ascending_prefix : (xs : List Placed) (p : Placed) → Ascending (xs ++ p ∷ []) → Ascending xs × AllBelow p.begin xs
+ascending_prefix [] p all = (tt, tt)
+ascending_prefix (x ∷ xs) p all =
+    let here : AllFrom (x.begin + 1) xs × (x.begin + 1 ≤ p.begin) = from_prefix xs p (x.begin + 1) all.0 in
+    let more : Ascending xs × AllBelow p.begin xs = ascending_prefix xs p all.1 in
     ((here.0, more.0), (omega (arith, here.1), more.1))
 
 -- what was kept of a producer comes back
 abbrev ComesBack : ℕ → ℕ → List Placed → Type 0
-ComesBack low until ps = Rising ps → AllFrom low ps → AllBelow until ps → part_after_all until (part_at (mark_of (part_after_all low nothing ps))) ps ≡ part_after_all low nothing ps
+ComesBack low until ps = Ascending ps → AllFrom low ps → AllBelow until ps → part_after_all until (part_at (mark_of (part_after_all low nothing ps))) ps ≡ part_after_all low nothing ps
 
 back_more : (low until : ℕ) (ps : List Placed) (p : Placed) → ComesBack low until ps → ComesBack low until (ps ++ p ∷ [])
-back_more low until ps p ih rising from below =
+back_more low until ps p ih ascending from below =
     let part : Part = part_after_all low nothing ps in
-    let r : Rising ps × AllBelow p.begin ps = rising_front ps p rising in
-    let f : AllFrom low ps × (low ≤ p.begin) = from_front ps p low from in
-    let b : AllBelow until ps × (p.begin < until) = below_front ps p until below in
+    let r : Ascending ps × AllBelow p.begin ps = ascending_prefix ps p ascending in
+    let f : AllFrom low ps × (low ≤ p.begin) = from_prefix ps p low from in
+    let b : AllBelow until ps × (p.begin < until) = below_prefix ps p until below in
     let sound : IsSound part p.begin = sound_run ps low p.begin nothing (record { before = tt; last = λ h. refl; pending = λ h. refl }) f.0 r.1 in
     let after : part_after_all low nothing (ps ++ p ∷ []) ≡ part_after part p = run_append ps (p ∷ []) low nothing ∙ rw (not_below p.begin low f.1) refl in
     let again : part_again (part_after_all until (part_at (mark_of (part_after part p))) ps) p ≡ part_after part p =
@@ -148,11 +148,11 @@ back_more low until ps p ih rising from below =
     run_append ps (p ∷ []) until (part_at (mark_of (part_after part p))) ∙ rw (is_below p.begin until b.1) refl in
     ap (λ (x : Part). part_after_all until (part_at (mark_of x)) (ps ++ p ∷ [])) after ∙ read ∙ again ∙ sym after
 
-back_from : (low until : ℕ) (back front : List Placed) → ComesBack low until front → ComesBack low until (front ++ back)
-back_from low until [] front h = let P : List Placed → Type 0 = λ ps. ComesBack low until ps in subst P (sym (append-nil front)) h
-back_from low until (p ∷ back) front h =
+back_from : (low until : ℕ) (back prefix : List Placed) → ComesBack low until prefix → ComesBack low until (prefix ++ back)
+back_from low until [] prefix h = let P : List Placed → Type 0 = λ ps. ComesBack low until ps in subst P (sym (append-nil prefix)) h
+back_from low until (p ∷ back) prefix h =
     let P : List Placed → Type 0 = λ ps. ComesBack low until ps in
-    subst P (append_assoc front (p ∷ []) back) (back_from low until back (front ++ p ∷ []) (back_more low until front p h))
+    subst P (append_assoc prefix (p ∷ []) back) (back_from low until back (prefix ++ p ∷ []) (back_more low until prefix p h))
 
 pub comes_back : (low until : ℕ) (ps : List Placed) → ComesBack low until ps
-comes_back low until ps = back_from low until ps [] (λ rising from below. refl)
+comes_back low until ps = back_from low until ps [] (λ ascending from below. refl)

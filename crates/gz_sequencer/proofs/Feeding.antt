@@ -106,21 +106,21 @@ at_fed [] s = omega arith
 at_fed (x ∷ xs) s = at_fed xs (after_byte s x) ∙ omega (arith, at_byte (x == 10) s x)
 
 -- the first line of some bytes, and what is behind it
-pub whole_front : (xs front : List ℕ) (n : ℕ) → Some n ≡ line_len xs → n ≤ length xs → front ≡ take n xs → line_len front ≡ Some (length front)
-whole_front xs front n e within f =
+pub whole_prefix : (xs prefix : List ℕ) (n : ℕ) → Some n ≡ line_len xs → n ≤ length xs → prefix ≡ take n xs → line_len prefix ≡ Some (length prefix)
+whole_prefix xs prefix n e within f =
     let len : length (take n xs) ≡ n = grind (arith, common_steps) in
     rw f (line_len_whole xs n (sym e) ∙ ap (λ (k : ℕ). Some k) (sym len))
 
-pub fed_split : (xs front back : List ℕ) (n : ℕ) (s t : Machine) → front ≡ take n xs → back ≡ drop n xs → t ≡ fed s front → fed t back ≡ fed s xs
-fed_split xs front back n s t f b e =
-    let joined : front ++ back ≡ xs = rw (f, b) (take-append-drop n xs) in
-    ap (λ (u : Machine). fed u back) e ∙ sym (fed_append front back s) ∙ ap (λ (ys : List ℕ). fed s ys) joined
+pub fed_split : (xs prefix back : List ℕ) (n : ℕ) (s t : Machine) → prefix ≡ take n xs → back ≡ drop n xs → t ≡ fed s prefix → fed t back ≡ fed s xs
+fed_split xs prefix back n s t f b e =
+    let joined : prefix ++ back ≡ xs = rw (f, b) (take-append-drop n xs) in
+    ap (λ (u : Machine). fed u back) e ∙ sym (fed_append prefix back s) ∙ ap (λ (ys : List ℕ). fed s ys) joined
 
-pub at_split : (xs front back : List ℕ) (n : ℕ) (s t : Machine) → front ≡ take n xs → back ≡ drop n xs → t ≡ fed s front → at t + length back ≡ at s + length xs
-at_split xs front back n s t f b e =
-    let moved : at t ≡ at s + length front = ap (λ (u : Machine). at u) e ∙ at_fed front s in
-    let joined : front ++ back ≡ xs = rw (f, b) (take-append-drop n xs) in
-    let both : length front + length back ≡ length xs = sym (length-append front back) ∙ ap (λ (ys : List ℕ). length ys) joined in
+pub at_split : (xs prefix back : List ℕ) (n : ℕ) (s t : Machine) → prefix ≡ take n xs → back ≡ drop n xs → t ≡ fed s prefix → at t + length back ≡ at s + length xs
+at_split xs prefix back n s t f b e =
+    let moved : at t ≡ at s + length prefix = ap (λ (u : Machine). at u) e ∙ at_fed prefix s in
+    let joined : prefix ++ back ≡ xs = rw (f, b) (take-append-drop n xs) in
+    let both : length prefix + length back ≡ length xs = sym (length-append prefix back) ∙ ap (λ (ys : List ℕ). length ys) joined in
     omega arith
 
 pub smaller : (xs back : List ℕ) (n : ℕ) → Some n ≡ line_len xs → n ≤ length xs → back ≡ drop n xs → length back < length xs

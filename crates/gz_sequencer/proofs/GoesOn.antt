@@ -11,7 +11,7 @@ use Rattle.gz_sequencer.specs.Parts.{Part, Parts, nothing, part_of, parts_after,
 use Rattle.gz_sequencer.specs.Machine.{Machine, after_message, after_line, after_byte, fed, mark_of, part_at}
 use Rattle.gz_sequencer.proofs.PartLookups.{placed_of, part_after_all, part_of_after_all}
 use Rattle.gz_sequencer.proofs.PartHistories.{AllFrom}
-use Rattle.gz_sequencer.proofs.Placement.{AllBelow, Rising, last_of_append, eq_newline}
+use Rattle.gz_sequencer.proofs.Placement.{AllBelow, Ascending, last_of_append, eq_newline}
 use Rattle.gz_sequencer.proofs.Again.{is_below, not_below, Idle, idle_none, idle_before, idle_run, run_append, comes_back}
 use Rattle.gz_sequencer.proofs.SameParts.{order_run, order_start, keys_again, same_parts}
 use Rattle.gz_sequencer.proofs.Marks.{marks_of, parts_at, part_of_marks, AtMost}
@@ -33,13 +33,13 @@ below_of : (ps : List Placed) (q : List ℕ) (n : ℕ) → AllBelow n ps → All
 below_of [] q n all = tt
 below_of (p ∷ ps) q n all = below_case (bytes_eq p.message.producer q) p (placed_of q ps) n all.0 (below_of ps q n all.1)
 
-rising_case : (b : Bool) (p : Placed) (ps : List Placed) → AllFrom (p.begin + 1) ps → Rising ps → Rising (cond b (p ∷ ps) ps)
-rising_case true p ps h all = (h, all)
-rising_case false p ps h all = all
+ascending_case : (b : Bool) (p : Placed) (ps : List Placed) → AllFrom (p.begin + 1) ps → Ascending ps → Ascending (cond b (p ∷ ps) ps)
+ascending_case true p ps h all = (h, all)
+ascending_case false p ps h all = all
 
-rising_of : (ps : List Placed) (q : List ℕ) → Rising ps → Rising (placed_of q ps)
-rising_of [] q all = tt
-rising_of (p ∷ ps) q all = rising_case (bytes_eq p.message.producer q) p (placed_of q ps) (from_of ps q (p.begin + 1) all.0) (rising_of ps q all.1)
+ascending_of : (ps : List Placed) (q : List ℕ) → Ascending ps → Ascending (placed_of q ps)
+ascending_of [] q all = tt
+ascending_of (p ∷ ps) q all = ascending_case (bytes_eq p.message.producer q) p (placed_of q ps) (from_of ps q (p.begin + 1) all.0) (ascending_of ps q all.1)
 
 -- the first message that waits isn't among messages below all first ones
 idle_below : (o : Option ℕ) (ps : List Placed) (n : ℕ) → AtMost n o → AllBelow n ps → Idle o ps
@@ -47,33 +47,33 @@ idle_below None ps n h below = idle_none ps
 idle_below (Some f) ps n h below = idle_before ps n f h below
 
 -- what is kept of a producer, where only the messages from the least offset on are read again
-one_again : (low until least : ℕ) (front back : List Placed) → Rising (front ++ back) → AllFrom low (front ++ back) → AllBelow until (front ++ back) → AllBelow until front → AllBelow least front
-    → AtMost least (part_after_all low nothing (front ++ back)).first
-    → part_after_all until (part_at (mark_of (part_after_all low nothing (front ++ back)))) back ≡ part_after_all low nothing (front ++ back)
-one_again low until least front back rising from below below_front below_least first =
-    let part : Part = part_after_all low nothing (front ++ back) in
+one_again : (low until least : ℕ) (prefix back : List Placed) → Ascending (prefix ++ back) → AllFrom low (prefix ++ back) → AllBelow until (prefix ++ back) → AllBelow until prefix → AllBelow least prefix
+    → AtMost least (part_after_all low nothing (prefix ++ back)).first
+    → part_after_all until (part_at (mark_of (part_after_all low nothing (prefix ++ back)))) back ≡ part_after_all low nothing (prefix ++ back)
+one_again low until least prefix back ascending from below below_prefix below_least first =
+    let part : Part = part_after_all low nothing (prefix ++ back) in
     let z : Part = part_at (mark_of part) in
-    let idle : part_after_all until z front ≡ z = idle_run front until z (idle_below part.first front least first below_least) below_front in
-    ap (λ (x : Part). part_after_all until x back) (sym idle) ∙ sym (run_append front back until z) ∙ comes_back low until (front ++ back) rising from below
+    let idle : part_after_all until z prefix ≡ z = idle_run prefix until z (idle_below part.first prefix least first below_least) below_prefix in
+    ap (λ (x : Part). part_after_all until x back) (sym idle) ∙ sym (run_append prefix back until z) ∙ comes_back low until (prefix ++ back) ascending from below
 
 -- what is kept of all producers comes back
-pub all_again : (low until least : ℕ) (front back : List Placed) → Rising (front ++ back) → AllFrom low (front ++ back) → AllBelow until (front ++ back) → AllBelow until front → AllBelow until back → AllBelow least front
-    → ((q : List ℕ) → AtMost least (part_of q (parts_after_all low [] (front ++ back))).first)
-    → parts_after_all until (parts_at (marks_of (parts_after_all low [] (front ++ back)))) back ≡ parts_after_all low [] (front ++ back)
-all_again low until least front back rising from below below_front below_back below_least first =
-    let parts : Parts = parts_after_all low [] (front ++ back) in
+pub all_again : (low until least : ℕ) (prefix back : List Placed) → Ascending (prefix ++ back) → AllFrom low (prefix ++ back) → AllBelow until (prefix ++ back) → AllBelow until prefix → AllBelow until back → AllBelow least prefix
+    → ((q : List ℕ) → AtMost least (part_of q (parts_after_all low [] (prefix ++ back))).first)
+    → parts_after_all until (parts_at (marks_of (parts_after_all low [] (prefix ++ back)))) back ≡ parts_after_all low [] (prefix ++ back)
+all_again low until least prefix back ascending from below below_prefix below_back below_least first =
+    let parts : Parts = parts_after_all low [] (prefix ++ back) in
     let again : Parts = parts_after_all until (parts_at (marks_of parts)) back in
     let keys : keys_of parts ≡ keys_of again =
     sym (keys_again back until (parts_at (marks_of parts)) below_back ∙ keys_of-map_values (λ m. part_at m) (marks_of parts) ∙ keys_of-map_values (λ x. mark_of x) parts) in
-    sym (same_parts parts again (order_run (front ++ back) low [] from order_start) keys (λ q.
-    let split : placed_of q (front ++ back) ≡ placed_of q front ++ placed_of q back = filter-append (λ p. bytes_eq p.message.producer q) front back in
-    let whole : part_of q parts ≡ part_after_all low nothing (placed_of q front ++ placed_of q back) = part_of_after_all (front ++ back) q low [] ∙ ap (λ (ps : List Placed). part_after_all low nothing ps) split in
-    let r : Rising (placed_of q front ++ placed_of q back) = subst (λ (ps : List Placed). Rising ps) split (rising_of (front ++ back) q rising) in
-    let f : AllFrom low (placed_of q front ++ placed_of q back) = subst (λ (ps : List Placed). AllFrom low ps) split (from_of (front ++ back) q low from) in
-    let b : AllBelow until (placed_of q front ++ placed_of q back) = subst (λ (ps : List Placed). AllBelow until ps) split (below_of (front ++ back) q until below) in
-    let m : AtMost least (part_after_all low nothing (placed_of q front ++ placed_of q back)).first = subst (λ (x : Part). AtMost least x.first) whole (first q) in
-    let one : part_after_all until (part_at (mark_of (part_after_all low nothing (placed_of q front ++ placed_of q back)))) (placed_of q back) ≡ part_after_all low nothing (placed_of q front ++ placed_of q back) =
-    one_again low until least (placed_of q front) (placed_of q back) r f b (below_of front q until below_front) (below_of front q least below_least) m in
+    sym (same_parts parts again (order_run (prefix ++ back) low [] from order_start) keys (λ q.
+    let split : placed_of q (prefix ++ back) ≡ placed_of q prefix ++ placed_of q back = filter-append (λ p. bytes_eq p.message.producer q) prefix back in
+    let whole : part_of q parts ≡ part_after_all low nothing (placed_of q prefix ++ placed_of q back) = part_of_after_all (prefix ++ back) q low [] ∙ ap (λ (ps : List Placed). part_after_all low nothing ps) split in
+    let r : Ascending (placed_of q prefix ++ placed_of q back) = subst (λ (ps : List Placed). Ascending ps) split (ascending_of (prefix ++ back) q ascending) in
+    let f : AllFrom low (placed_of q prefix ++ placed_of q back) = subst (λ (ps : List Placed). AllFrom low ps) split (from_of (prefix ++ back) q low from) in
+    let b : AllBelow until (placed_of q prefix ++ placed_of q back) = subst (λ (ps : List Placed). AllBelow until ps) split (below_of (prefix ++ back) q until below) in
+    let m : AtMost least (part_after_all low nothing (placed_of q prefix ++ placed_of q back)).first = subst (λ (x : Part). AtMost least x.first) whole (first q) in
+    let one : part_after_all until (part_at (mark_of (part_after_all low nothing (placed_of q prefix ++ placed_of q back)))) (placed_of q back) ≡ part_after_all low nothing (placed_of q prefix ++ placed_of q back) =
+    one_again low until least (placed_of q prefix) (placed_of q back) r f b (below_of prefix q until below_prefix) (below_of prefix q least below_least) m in
     let read : part_of q again ≡ part_after_all until (part_at (mark_of (part_of q parts))) (placed_of q back) =
     part_of_after_all back q until (parts_at (marks_of parts)) ∙ ap (λ (x : Part). part_after_all until x (placed_of q back)) (part_of_marks q parts) in
     sym (read ∙ ap (λ (x : Part). part_after_all until (part_at (mark_of x)) (placed_of q back)) whole ∙ one ∙ sym whole)))
@@ -146,8 +146,8 @@ pub whole_line : (text : List ℕ) (s : Machine) → s.line ≡ [] → is_whole 
 whole_line [] s line whole = line
 whole_line (x ∷ xs) s line whole = no_line_behind xs x s whole
 
-pub back_last : (front back : List ℕ) (b : ℕ) → is_whole front ≡ true → is_whole (front ++ back) ≡ true → is_whole back ≡ true
-back_last front back b whole both =
-    let split : last_of newline (front ++ back) ≡ last_of (last_of newline front) back = last_of_append front back newline in
-    let first : last_of newline front ≡ newline = eq_newline (last_of newline front) whole in
+pub back_last : (prefix back : List ℕ) (b : ℕ) → is_whole prefix ≡ true → is_whole (prefix ++ back) ≡ true → is_whole back ≡ true
+back_last prefix back b whole both =
+    let split : last_of newline (prefix ++ back) ≡ last_of (last_of newline prefix) back = last_of_append prefix back newline in
+    let first : last_of newline prefix ≡ newline = eq_newline (last_of newline prefix) whole in
     ap (λ (n : ℕ). last_of n back == newline) (sym first) ∙ ap (λ (n : ℕ). n == newline) (sym split) ∙ both

@@ -16,17 +16,17 @@ abbrev by_bytes : List ℕ → List ℕ → Ordering
 by_bytes x y = slice_cmp nat_cmp x y
 
 -- what holds of all keys holds of one among them
-at_key : {Y : Type 0} (P : List ℕ → Type 0) (front back : List (List ℕ × Y)) (e : List ℕ × Y) → AllByRecursion P (keys_of (front ++ e ∷ back)) → P e.0
+at_key : {Y : Type 0} (P : List ℕ → Type 0) (prefix back : List (List ℕ × Y)) (e : List ℕ × Y) → AllByRecursion P (keys_of (prefix ++ e ∷ back)) → P e.0
 at_key P [] back e all = all.0
-at_key P (f ∷ front) back e all = at_key P front back e all.1
+at_key P (f ∷ prefix) back e all = at_key P prefix back e all.1
 
 -- an entry whose key is above all others goes behind them
-put_behind : {Y : Type 0} (front back : List (List ℕ × Y)) (k : List ℕ) (y : Y) → IsStrictlySortedBy by_bytes (keys_of (front ++ (k, y) ∷ back)) → insert_entry by_bytes front k y ≡ front ++ (k, y) ∷ []
+put_behind : {Y : Type 0} (prefix back : List (List ℕ × Y)) (k : List ℕ) (y : Y) → IsStrictlySortedBy by_bytes (keys_of (prefix ++ (k, y) ∷ back)) → insert_entry by_bytes prefix k y ≡ prefix ++ (k, y) ∷ []
 put_behind [] back k y sorted = refl
-put_behind {Y} (f ∷ front) back k y sorted =
-    let below : by_bytes f.0 k ≡ Less = at_key (λ x. by_bytes f.0 x ≡ Less) front back (k, y) (sorted_head by_bytes f.0 (keys_of (front ++ (k, y) ∷ back)) sorted) in
+put_behind {Y} (f ∷ prefix) back k y sorted =
+    let below : by_bytes f.0 k ≡ Less = at_key (λ x. by_bytes f.0 x ≡ Less) prefix back (k, y) (sorted_head by_bytes f.0 (keys_of (prefix ++ (k, y) ∷ back)) sorted) in
     let above : by_bytes k f.0 ≡ Greater = nat_list_cmp_total.antisymm k f.0 ∙ ap (λ (o : Ordering). ordering_reverse o) below in
-    rw above (ap (λ (es : List (List ℕ × Y)). f ∷ es) (put_behind front back k y (sorted_tail by_bytes f.0 (keys_of (front ++ (k, y) ∷ back)) sorted)))
+    rw above (ap (λ (es : List (List ℕ × Y)). f ∷ es) (put_behind prefix back k y (sorted_tail by_bytes f.0 (keys_of (prefix ++ (k, y) ∷ back)) sorted)))
 
 -- one more entry of a list in order is put behind those that were put before
 pub put_next : {X Y : Type 0} (g : X → Y) (all rest more : List (List ℕ × X)) (done next : List (List ℕ × Y)) (k : List ℕ) (x : X) (y : Y)

@@ -8,7 +8,7 @@ use Rattle.std.proofs.lemmas.List.{append-nil, map-append}
 use Rattle.std.proofs.lemmas.List.Elements.{filter-append}
 use Rattle.std.proofs.lemmas.List.Folds.{list_any-append}
 use Rattle.gz_frame.specs.Messages.{Message, is_end}
-use Rattle.gz_frame.specs.Release.{is_above, greater_of, greatest_from, greatest, since_end, rising, chain, released, of_producer}
+use Rattle.gz_frame.specs.Release.{is_above, greater_of, greatest_from, greatest, since_end, ascending, chain, released, of_producer}
 use Rattle.gz_frame.specs.Text.{Placed}
 use Rattle.gz_sequencer.specs.Committed.{released_in, committed_after}
 use Rattle.gz_sequencer.specs.Parts.{Part, Parts, nothing, part_of, ended, does_wait, with_waiting, continued, part_after, part_releases, parts_after, releases, releases_of_all}
@@ -32,15 +32,15 @@ greatest_from_more : (h : List Message) (g : Option ℕ) (m : Message) → great
 greatest_from_more [] g m = refl
 greatest_from_more (x ∷ h) g m = greatest_from_more h (cond (is_end x) (greater_of g x.clock) g) m
 
-rising_step : (b : Bool) (x : Message) (top : Option ℕ) (xs : List Message) (m : Message)
-    → ((t : Option ℕ) → rising t (xs ++ m ∷ []) ≡ rising t xs ++ cond (is_above (top_from t xs) m.clock) (m ∷ []) [])
-    → cond b (x ∷ rising (Some x.clock) (xs ++ m ∷ [])) (rising top (xs ++ m ∷ [])) ≡ cond b (x ∷ rising (Some x.clock) xs) (rising top xs) ++ cond (is_above (top_from (cond b (Some x.clock) top) xs) m.clock) (m ∷ []) []
-rising_step true x top xs m ih = ap (λ (ms : List Message). x ∷ ms) (ih (Some x.clock))
-rising_step false x top xs m ih = ih top
+ascending_step : (b : Bool) (x : Message) (top : Option ℕ) (xs : List Message) (m : Message)
+    → ((t : Option ℕ) → ascending t (xs ++ m ∷ []) ≡ ascending t xs ++ cond (is_above (top_from t xs) m.clock) (m ∷ []) [])
+    → cond b (x ∷ ascending (Some x.clock) (xs ++ m ∷ [])) (ascending top (xs ++ m ∷ [])) ≡ cond b (x ∷ ascending (Some x.clock) xs) (ascending top xs) ++ cond (is_above (top_from (cond b (Some x.clock) top) xs) m.clock) (m ∷ []) []
+ascending_step true x top xs m ih = ap (λ (ms : List Message). x ∷ ms) (ih (Some x.clock))
+ascending_step false x top xs m ih = ih top
 
-rising_more : (xs : List Message) (top : Option ℕ) (m : Message) → rising top (xs ++ m ∷ []) ≡ rising top xs ++ cond (is_above (top_from top xs) m.clock) (m ∷ []) []
-rising_more [] top m = refl
-rising_more (x ∷ xs) top m = rising_step (is_above top x.clock) x top xs m (λ t. rising_more xs t m)
+ascending_more : (xs : List Message) (top : Option ℕ) (m : Message) → ascending top (xs ++ m ∷ []) ≡ ascending top xs ++ cond (is_above (top_from top xs) m.clock) (m ∷ []) []
+ascending_more [] top m = refl
+ascending_more (x ∷ xs) top m = ascending_step (is_above top x.clock) x top xs m (λ t. ascending_more xs t m)
 
 top_from_more : (xs : List Message) (top : Option ℕ) (m : Message) → top_from top (xs ++ m ∷ []) ≡ cond (is_above (top_from top xs) m.clock) (Some m.clock) (top_from top xs)
 top_from_more [] top m = refl
@@ -90,10 +90,6 @@ keeps_end h m part end k = record {
   pending = rw (since_end_ended h m end) refl;
 }
 
-one_case : (a : Bool) (m : Message) → filter (λ x. a) (m ∷ []) ≡ cond a (m ∷ []) []
-one_case true m = refl
-one_case false m = refl
-
 waiting_more : (h : List Message) (m : Message) → is_end m ≡ false → waiting (h ++ m ∷ []) ≡ waiting h ++ cond (is_above (greatest h) m.clock) (m ∷ []) []
 waiting_more h m none =
     let top : greatest (h ++ m ∷ []) ≡ greatest h = greatest_from_more h None m ∙ rw none refl in
@@ -107,17 +103,17 @@ keeps_more : (a b : Bool) (h : List Message) (p : Placed) (part : Part) → is_a
 keeps_more true true h p part above rises top wait k = record {
   ack = k.ack ∙ sym top;
   last = sym (ap (λ (ms : List Message). top_from None ms) wait ∙ top_from_more (waiting h) None p.message ∙ rw rises refl);
-  pending = ap (λ (ms : List Message). ms ++ p.message ∷ []) k.pending ∙ sym (ap (λ (ms : List Message). rising None ms) wait ∙ rising_more (waiting h) None p.message ∙ rw rises refl);
+  pending = ap (λ (ms : List Message). ms ++ p.message ∷ []) k.pending ∙ sym (ap (λ (ms : List Message). ascending None ms) wait ∙ ascending_more (waiting h) None p.message ∙ rw rises refl);
 }
 keeps_more true false h p part above rises top wait k = record {
   ack = k.ack ∙ sym top;
   last = k.last ∙ sym (ap (λ (ms : List Message). top_from None ms) wait ∙ top_from_more (waiting h) None p.message ∙ rw rises refl);
-  pending = k.pending ∙ sym (ap (λ (ms : List Message). rising None ms) wait ∙ rising_more (waiting h) None p.message ∙ rw rises (append-nil (chain h)));
+  pending = k.pending ∙ sym (ap (λ (ms : List Message). ascending None ms) wait ∙ ascending_more (waiting h) None p.message ∙ rw rises (append-nil (chain h)));
 }
 keeps_more false b h p part above rises top wait k = record {
   ack = k.ack ∙ sym top;
   last = k.last ∙ sym (ap (λ (ms : List Message). top_from None ms) (wait ∙ append-nil (waiting h)));
-  pending = k.pending ∙ sym (ap (λ (ms : List Message). rising None ms) (wait ∙ append-nil (waiting h)));
+  pending = k.pending ∙ sym (ap (λ (ms : List Message). ascending None ms) (wait ∙ append-nil (waiting h)));
 }
 
 keeps_continued : (h : List Message) (p : Placed) (part : Part) → is_end p.message ≡ false → Keeps h part → Keeps (h ++ p.message ∷ []) (continued part p)

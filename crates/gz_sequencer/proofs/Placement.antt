@@ -16,17 +16,17 @@ AllBelow to [] = ⊤
 AllBelow to (p ∷ ps) = (p.begin < to) × AllBelow to ps
 
 -- each message begins behind those before it
-abbrev pub Rising : List Placed → Type 0
-Rising [] = ⊤
-Rising (p ∷ ps) = AllFrom (p.begin + 1) ps × Rising ps
+abbrev pub Ascending : List Placed → Type 0
+Ascending [] = ⊤
+Ascending (p ∷ ps) = AllFrom (p.begin + 1) ps × Ascending ps
 
 -- whole lines of the text end at an offset
 pub record StartsAt (begin : ℕ) (text : List ℕ) (n : ℕ) : Type 0 where
-  pub front : List ℕ
+  pub prefix : List ℕ
   pub back : List ℕ
-  pub joined : front ++ back ≡ text
-  pub whole : is_whole front ≡ true
-  pub place : n ≡ begin + length front
+  pub joined : prefix ++ back ≡ text
+  pub whole : is_whole prefix ≡ true
+  pub place : n ≡ begin + length prefix
 
 abbrev pub AllStart : ℕ → List ℕ → List Placed → Type 0
 AllStart begin text [] = ⊤
@@ -35,7 +35,7 @@ AllStart begin text (p ∷ ps) = StartsAt begin text p.begin × AllStart begin t
 pub record Placement (begin : ℕ) (text : List ℕ) (ps : List Placed) : Type 0 where
   pub from : AllFrom begin ps
   pub below : AllBelow (begin + length text) ps
-  pub rising : Rising ps
+  pub ascending : Ascending ps
   pub starts : AllStart begin text ps
 
 pub all_from_lower : (ps : List Placed) (low high : ℕ) → low ≤ high → AllFrom high ps → AllFrom low ps
@@ -61,11 +61,11 @@ whole_line line x end = rw (last_of_append line (x ∷ []) newline) end
 
 starts_further : (begin : ℕ) (line text : List ℕ) (n : ℕ) → is_whole line ≡ true → StartsAt (begin + length line) text n → StartsAt begin (line ++ text) n
 starts_further begin line text n whole s = record {
-  front = line ++ s.front;
+  prefix = line ++ s.prefix;
   back = s.back;
-  joined = append_assoc line s.front s.back ∙ ap (λ (t : List ℕ). line ++ t) s.joined;
-  whole = whole_append line s.front whole s.whole;
-  place = omega (arith, s.place, length-append line s.front);
+  joined = append_assoc line s.prefix s.back ∙ ap (λ (t : List ℕ). line ++ t) s.joined;
+  whole = whole_append line s.prefix whole s.whole;
+  place = omega (arith, s.place, length-append line s.prefix);
 }
 
 all_start_further : (ps : List Placed) (begin : ℕ) (line text : List ℕ) → is_whole line ≡ true → AllStart (begin + length line) text ps → AllStart begin (line ++ text) ps
@@ -77,14 +77,14 @@ line_placed : (o : Option Message) (begin : ℕ) (line text : List ℕ) (ps : Li
 line_placed None begin line text ps some whole h = record {
   from = all_from_lower ps begin (begin + length line) (omega arith) h.from;
   below = all_below_higher ps (begin + length line + length text) (begin + length (line ++ text)) (omega (arith, length-append line text)) h.below;
-  rising = h.rising;
+  ascending = h.ascending;
   starts = all_start_further ps begin line text whole h.starts;
 }
 line_placed (Some m) begin line text ps some whole h = record {
   from = (omega arith, all_from_lower ps begin (begin + length line) (omega arith) h.from);
   below = (omega (arith, length-append line text), all_below_higher ps (begin + length line + length text) (begin + length (line ++ text)) (omega (arith, length-append line text)) h.below);
-  rising = (all_from_lower ps (begin + 1) (begin + length line) (omega arith) h.from, h.rising);
-  starts = (record { front = []; back = line ++ text; joined = refl; whole = refl; place = omega arith }, all_start_further ps begin line text whole h.starts);
+  ascending = (all_from_lower ps (begin + 1) (begin + length line) (omega arith) h.from, h.ascending);
+  starts = (record { prefix = []; back = line ++ text; joined = refl; whole = refl; place = omega arith }, all_start_further ps begin line text whole h.starts);
 }
 
 place_step : (b : Bool) (x : ℕ) (xs line : List ℕ) (begin : ℕ) → (x == 10) ≡ b → line_len line ≡ None
@@ -106,5 +106,5 @@ place_step false x xs line begin test none ih =
 pub placement : (text line : List ℕ) (begin : ℕ) → line_len line ≡ None → Placement begin (line ++ text) (messages_of begin (line ++ text))
 placement [] line begin none =
     let P : List Placed → Type 0 = λ ps. Placement begin (line ++ []) ps in
-    subst P (sym (no_messages begin (line ++ []) (ap (λ (l : List ℕ). line_len l) (append-nil line) ∙ none))) (record { from = tt; below = tt; rising = tt; starts = tt })
+    subst P (sym (no_messages begin (line ++ []) (ap (λ (l : List ℕ). line_len l) (append-nil line) ∙ none))) (record { from = tt; below = tt; ascending = tt; starts = tt })
 placement (x ∷ xs) line begin none = place_step (x == 10) x xs line begin refl none (λ l n h. placement xs l n h)

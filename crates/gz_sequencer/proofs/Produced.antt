@@ -7,7 +7,7 @@ use Rattle.std.proofs.lemmas.Slice.Eq.{bytes_eq-Decides}
 use Rattle.std.specs.List.{list_any}
 use Rattle.std.specs.Str.{bytes_eq}
 use Rattle.gz_frame.specs.Messages.{Message, is_ack, is_outside, is_end}
-use Rattle.gz_frame.specs.Release.{Release, released, of_producer, chain, rising, since_end, is_above, greatest}
+use Rattle.gz_frame.specs.Release.{Release, released, of_producer, chain, ascending, since_end, is_above, greatest}
 use Rattle.gz_frame.specs.Text.{Placed}
 use Rattle.gz_sequencer.specs.Committed.{messages_alone, released_in, committed_after}
 use Rattle.gz_sequencer.proofs.PartHistories.{released_of_line}
@@ -25,15 +25,6 @@ messages_behind h (p ∷ ps) =
     let rest : List Release = committed_after (h ++ p.message ∷ []) ps in
     map-append (λ r. r.message) (map (λ r. record { message = r; end = p.end }) ms) rest
     ∙ rw (released_of_line p.end ms, messages_behind (h ++ p.message ∷ []) ps) refl
-
--- what two lists release
-pub released_two : (h xs ys : List Message) → released_behind h (xs ++ ys) ≡ released_behind h xs ++ released_behind (h ++ xs) ys
-released_two h [] ys = ap (λ (g : List Message). released_behind g ys) (sym (append-nil h))
-released_two h (x ∷ xs) ys =
-    let first : List Message = released (of_producer x.producer h) x in
-    ap (λ (ms : List Message). first ++ ms) (released_two (h ++ x ∷ []) xs ys
-    ∙ ap (λ (g : List Message). released_behind (h ++ x ∷ []) xs ++ released_behind g ys) (append_assoc h (x ∷ []) xs))
-    ∙ sym (append_assoc first (released_behind (h ++ x ∷ []) xs) (released_behind (h ++ x ∷ xs) ys))
 
 -- ---- what holds of each message of a history, and so of each that is released
 
@@ -53,10 +44,10 @@ pub each_filter : (t : Message → Bool) (P : Message → Type 0) (ms : List Mes
 each_filter t P [] a = tt
 each_filter t P (m ∷ ms) a = each_if P m (filter t ms) (filter t ms) (t m) a.0 (each_filter t P ms a.1) (each_filter t P ms a.1)
 
-each_rising : (top : Option ℕ) (P : Message → Type 0) (ms : List Message) → Each P ms → Each P (rising top ms)
-each_rising top P [] a = tt
-each_rising top P (m ∷ ms) a =
-    each_if P m (rising (Some m.clock) ms) (rising top ms) (is_above top m.clock) a.0 (each_rising (Some m.clock) P ms a.1) (each_rising top P ms a.1)
+each_ascending : (top : Option ℕ) (P : Message → Type 0) (ms : List Message) → Each P ms → Each P (ascending top ms)
+each_ascending top P [] a = tt
+each_ascending top P (m ∷ ms) a =
+    each_if P m (ascending (Some m.clock) ms) (ascending top ms) (is_above top m.clock) a.0 (each_ascending (Some m.clock) P ms a.1) (each_ascending top P ms a.1)
 
 each_either : (P : Message → Type 0) (xs ys : List Message) (b : Bool) → Each P xs → Each P ys → Each P (cond b xs ys)
 each_either P xs ys true a c = a
@@ -68,7 +59,7 @@ each_since P (m ∷ ms) a = each_either P (since_end ms) (m ∷ ms) (list_any is
 
 pub each_released : (P : Message → Type 0) (h : List Message) (m : Message) → Each P h → P m → Each P (released h m)
 each_released P h m a e =
-    let waits : Each P (chain h) = each_rising _ P _ (each_filter _ P (since_end h) (each_since P h a)) in
+    let waits : Each P (chain h) = each_ascending _ P _ (each_filter _ P (since_end h) (each_since P h a)) in
     each_either P _ _ (is_ack m) (each_filter _ P (chain h) waits)
     (each_either P _ _ (is_outside m) (each_either P (m ∷ []) [] (is_above (greatest h) m.clock) (e, tt) tt) tt)
 

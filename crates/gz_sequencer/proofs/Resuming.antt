@@ -17,7 +17,7 @@ use Rattle.gz_sequencer.specs.Machine.{Machine, Mark, Point, at, after_message, 
 use Rattle.gz_sequencer.proofs.PartHistories.{AllFrom}
 use Rattle.gz_sequencer.proofs.Feeding.{fed_append, fed_open, at_fed}
 use Rattle.gz_sequencer.proofs.FedTexts.{Follows, fed_follows}
-use Rattle.gz_sequencer.proofs.Placement.{AllBelow, all_below_higher, Rising, StartsAt, Placement, placement}
+use Rattle.gz_sequencer.proofs.Placement.{AllBelow, all_below_higher, Ascending, StartsAt, Placement, placement}
 use Rattle.gz_sequencer.proofs.AnyCuts.{fed_is_committed}
 use Rattle.gz_sequencer.proofs.Again.{is_below}
 use Rattle.gz_sequencer.proofs.Marks.{marks_of, parts_at, AtMost, AllFirst, least_first, least_starts, all_first_run}
@@ -38,16 +38,16 @@ stands offset text whole =
     let place : at (fed (started offset) text) ≡ at (started offset) + length text = at_fed text (started offset) in
     record { until = f.until; begin = omega (arith, none, place); line = empty; parts = f.parts }
 
-drop_front : (front back : List ℕ) → drop (length front) (front ++ back) ≡ back
-drop_front [] back = refl
-drop_front (x ∷ front) back = drop_front front back
+drop_prefix : (prefix back : List ℕ) → drop (length prefix) (prefix ++ back) ≡ back
+drop_prefix [] back = refl
+drop_prefix (x ∷ prefix) back = drop_prefix prefix back
 
--- a front and a back of whole lines, of which the front ends at the least offset
-from_cut : (offset : ℕ) (text front back : List ℕ) (s r : Machine) → Stands offset text s → r ≡ resumed (point_of s) → front ++ back ≡ text → is_whole front ≡ true → is_whole back ≡ true → r.begin ≡ offset + length front
+-- a prefix and the rest of whole lines, of which the prefix ends at the least offset
+from_cut : (offset : ℕ) (text prefix back : List ℕ) (s r : Machine) → Stands offset text s → r ≡ resumed (point_of s) → prefix ++ back ≡ text → is_whole prefix ≡ true → is_whole back ≡ true → r.begin ≡ offset + length prefix
     → Twin s.released s (fed r back)
-from_cut offset text front back s r st same joined whole whole_back place =
+from_cut offset text prefix back s r st same joined whole whole_back place =
     let top : max s.until s.begin ≡ offset + length text = omega (arith, st.until, st.begin) in
-    let lengths : length front + length back ≡ length text = sym (length-append front back) ∙ ap (λ (ys : List ℕ). length ys) joined in
+    let lengths : length prefix + length back ≡ length text = sym (length-append prefix back) ∙ ap (λ (ys : List ℕ). length ys) joined in
     let until : r.until ≡ offset + length text = ap (λ (m : Machine). m.until) same ∙ top in
     let line : r.line ≡ [] = ap (λ (m : Machine). m.line) same in
     let f : Follows r (fed r back) (messages_of r.begin (r.line ++ back)) = fed_follows back r (ap (λ (l : List ℕ). line_len l) line) in
@@ -57,23 +57,23 @@ from_cut offset text front back s r st same joined whole whole_back place =
     let none_r : length r.line ≡ 0 = ap (λ (l : List ℕ). length l) line in
     let moved : at (fed r back) ≡ at r + length back = at_fed back r in
     let begin : (fed r back).begin ≡ offset + length text = omega (arith, none, none_r, moved, place, lengths) in
-    let ps_front : List Placed = messages_of offset front in
+    let ps_prefix : List Placed = messages_of offset prefix in
     let ps_back : List Placed = messages_of r.begin back in
-    let split : messages_of offset text ≡ ps_front ++ ps_back =
-    ap (λ (t : List ℕ). messages_of offset t) (sym joined) ∙ messages_joined offset front back whole ∙ ap (λ (n : ℕ). ps_front ++ messages_of n back) (sym place) in
+    let split : messages_of offset text ≡ ps_prefix ++ ps_back =
+    ap (λ (t : List ℕ). messages_of offset t) (sym joined) ∙ messages_joined offset prefix back whole ∙ ap (λ (n : ℕ). ps_prefix ++ messages_of n back) (sym place) in
     let p : Placement offset text (messages_of offset text) = placement text [] offset refl in
-    let p_front : Placement offset front ps_front = placement front [] offset refl in
+    let p_prefix : Placement offset prefix ps_prefix = placement prefix [] offset refl in
     let p_back : Placement r.begin back ps_back = placement back [] r.begin refl in
-    let parts : s.parts ≡ parts_after_all offset [] (ps_front ++ ps_back) = st.parts ∙ ap (λ (ps : List Placed). parts_after_all offset [] ps) split in
-    let below_front : AllBelow (offset + length text) ps_front = all_below_higher ps_front (offset + length front) (offset + length text) (omega arith) p_front.below in
+    let parts : s.parts ≡ parts_after_all offset [] (ps_prefix ++ ps_back) = st.parts ∙ ap (λ (ps : List Placed). parts_after_all offset [] ps) split in
+    let below_prefix : AllBelow (offset + length text) ps_prefix = all_below_higher ps_prefix (offset + length prefix) (offset + length text) (omega arith) p_prefix.below in
     let below_back : AllBelow (offset + length text) ps_back = all_below_higher ps_back (r.begin + length back) (offset + length text) (omega arith) p_back.below in
-    let below_least : AllBelow r.begin ps_front = all_below_higher ps_front (offset + length front) r.begin (omega arith) p_front.below in
-    let least : (q : List ℕ) → AtMost r.begin (part_of q (parts_after_all offset [] (ps_front ++ ps_back))).first = λ q.
+    let below_least : AllBelow r.begin ps_prefix = all_below_higher ps_prefix (offset + length prefix) r.begin (omega arith) p_prefix.below in
+    let least : (q : List ℕ) → AtMost r.begin (part_of q (parts_after_all offset [] (ps_prefix ++ ps_back))).first = λ q.
     subst (λ (x : Parts). AtMost r.begin (part_of q x).first) parts (subst (λ (n : ℕ). AtMost n (part_of q s.parts).first) (sym (ap (λ (m : Machine). m.begin) same)) (least_first q s.parts (max s.until s.begin))) in
-    let again : parts_after_all (offset + length text) (parts_at (marks_of (parts_after_all offset [] (ps_front ++ ps_back)))) ps_back ≡ parts_after_all offset [] (ps_front ++ ps_back) =
-    all_again offset (offset + length text) r.begin ps_front ps_back
-    (subst (λ (ps : List Placed). Rising ps) split p.rising) (subst (λ (ps : List Placed). AllFrom offset ps) split p.from) (subst (λ (ps : List Placed). AllBelow (offset + length text) ps) split p.below)
-    below_front below_back below_least least in
+    let again : parts_after_all (offset + length text) (parts_at (marks_of (parts_after_all offset [] (ps_prefix ++ ps_back)))) ps_back ≡ parts_after_all offset [] (ps_prefix ++ ps_back) =
+    all_again offset (offset + length text) r.begin ps_prefix ps_back
+    (subst (λ (ps : List Placed). Ascending ps) split p.ascending) (subst (λ (ps : List Placed). AllFrom offset ps) split p.from) (subst (λ (ps : List Placed). AllBelow (offset + length text) ps) split p.below)
+    below_prefix below_back below_least least in
     let read : (fed r back).parts ≡ s.parts =
     f.parts ∙ ap (λ (ps : List Placed). parts_after_all r.until r.parts ps) texts
     ∙ ap (λ (u : ℕ). parts_after_all u r.parts ps_back) until
@@ -100,7 +100,7 @@ cut_of offset text whole =
     let st : Stands offset text s = stands offset text whole in
     let p : Placement offset text (messages_of offset text) = placement text [] offset refl in
     let firsts : AllFirst offset text s.parts = subst (λ (x : Parts). AllFirst offset text x) (sym st.parts) (all_first_run (messages_of offset text) offset offset text [] p.from p.starts tt) in
-    let end : StartsAt offset text (max s.until s.begin) = record { front = text; back = []; joined = append-nil text; whole = whole; place = omega (arith, st.until, st.begin) } in
+    let end : StartsAt offset text (max s.until s.begin) = record { prefix = text; back = []; joined = append-nil text; whole = whole; place = omega (arith, st.until, st.begin) } in
     least_starts s.parts offset text (max s.until s.begin) firsts end
 
 -- after whole lines
@@ -111,12 +111,12 @@ from_whole offset text xs whole =
     let r : Machine = resumed (point_of s) in
     let st : Stands offset text s = stands offset text whole in
     let cut : StartsAt offset text r.begin = cut_of offset text whole in
-    let whole_back : is_whole cut.back ≡ true = back_last cut.front cut.back 0 cut.whole (ap (λ (t : List ℕ). is_whole t) cut.joined ∙ whole) in
-    let twin : Twin s.released s (fed r cut.back) = from_cut offset text cut.front cut.back s r st refl cut.joined cut.whole whole_back cut.place in
-    let left : at r - offset ≡ length cut.front = omega (arith, cut.place) in
+    let whole_back : is_whole cut.back ≡ true = back_last cut.prefix cut.back 0 cut.whole (ap (λ (t : List ℕ). is_whole t) cut.joined ∙ whole) in
+    let twin : Twin s.released s (fed r cut.back) = from_cut offset text cut.prefix cut.back s r st refl cut.joined cut.whole whole_back cut.place in
+    let left : at r - offset ≡ length cut.prefix = omega (arith, cut.place) in
     let rest : drop (at r - offset) (text ++ xs) ≡ cut.back ++ xs =
-    ap (λ (n : ℕ). drop n (text ++ xs)) left ∙ ap (λ (t : List ℕ). drop (length cut.front) (t ++ xs)) (sym cut.joined)
-    ∙ ap (λ (t : List ℕ). drop (length cut.front) t) (append_assoc cut.front cut.back xs) ∙ drop_front cut.front (cut.back ++ xs) in
+    ap (λ (n : ℕ). drop n (text ++ xs)) left ∙ ap (λ (t : List ℕ). drop (length cut.prefix) (t ++ xs)) (sym cut.joined)
+    ∙ ap (λ (t : List ℕ). drop (length cut.prefix) t) (append_assoc cut.prefix cut.back xs) ∙ drop_prefix cut.prefix (cut.back ++ xs) in
     let both : Twin s.released (fed s xs) (fed (fed r cut.back) xs) = twin_fed xs s.released s (fed r cut.back) twin in
     let P : Machine → Type 0 = λ t. Twin s.released t (fed r (drop (at r - offset) (text ++ xs))) in
     let Q : Machine → Type 0 = λ u. Twin s.released (fed s xs) u in
@@ -148,9 +148,9 @@ wants_within offset text =
     let cut : StartsAt offset split.whole (resumed (point_of s)).begin = cut_of offset split.whole split.lines in
     let same : at (resumed (point_of (fed (started offset) text))) ≡ (resumed (point_of s)).begin =
     ap (λ (m : Machine). at (resumed (point_of m))) e ∙ omega arith in
-    let front : length cut.front + length cut.back ≡ length split.whole = sym (length-append cut.front cut.back) ∙ ap (λ (t : List ℕ). length t) cut.joined in
+    let prefix : length cut.prefix + length cut.back ≡ length split.whole = sym (length-append cut.prefix cut.back) ∙ ap (λ (t : List ℕ). length t) cut.joined in
     let whole : length split.whole + length split.rest ≡ length text = sym (length-append split.whole split.rest) ∙ ap (λ (t : List ℕ). length t) split.joined in
-    (omega (arith, same, cut.place), omega (arith, same, cut.place, front, whole))
+    (omega (arith, same, cut.place), omega (arith, same, cut.place, prefix, whole))
 
 pub releases_the_rest : (offset : ℕ) (text more : List ℕ)
     → released_in (committed offset text) ++ (fed (resumed (point_of (fed (started offset) text))) (drop (at (resumed (point_of (fed (started offset) text))) - offset) (text ++ more))).released ≡ released_in (committed offset (text ++ more))
@@ -170,7 +170,7 @@ pub checkpoints_agree : (offset : ℕ) (text more : List ℕ)
     → point_of (fed (resumed (point_of (fed (started offset) text))) (drop (at (resumed (point_of (fed (started offset) text))) - offset) (text ++ more))) ≡ point_of (fed (started offset) (text ++ more))
 checkpoints_agree offset text more = twin_point (fed (started offset) text).released (fed (started offset) (text ++ more)) (fed (resumed (point_of (fed (started offset) text))) (drop (at (resumed (point_of (fed (started offset) text))) - offset) (text ++ more))) (goes_on offset text more)
 
--- ---- a front of a text commits a front
+-- ---- a prefix of a text commits a prefix
 committed_two : (ps qs : List Placed) (h : List Message) → committed_after h (ps ++ qs) ≡ committed_after h ps ++ committed_after (h ++ messages_alone ps) qs
 committed_two [] qs h = ap (λ (g : List Message). committed_after g qs) (sym (append-nil h))
 committed_two (p ∷ ps) qs h =
@@ -178,10 +178,10 @@ committed_two (p ∷ ps) qs h =
     ap (λ (rs : List Release). first ++ rs) (committed_two ps qs (h ++ p.message ∷ []) ∙ ap (λ (g : List Message). committed_after (h ++ p.message ∷ []) ps ++ committed_after g qs) (append_assoc h (p.message ∷ []) (messages_alone ps)))
     ∙ sym (append_assoc first (committed_after (h ++ p.message ∷ []) ps) (committed_after (h ++ p.message ∷ messages_alone ps) qs))
 
-pub front_commits_front : (offset : ℕ) (front back : List ℕ) → IsPrefix (committed offset front) (committed offset (front ++ back))
-front_commits_front offset front back =
-    let h : IsPrefix (messages_of offset front) (messages_of offset (front ++ back)) = messages_prefix offset front back in
-    (committed_after ([] ++ messages_alone (messages_of offset front)) h.0, sym (committed_two (messages_of offset front) h.0 []) ∙ ap (λ (ps : List Placed). committed_after [] ps) h.1)
+pub prefix_commits_prefix : (offset : ℕ) (prefix back : List ℕ) → IsPrefix (committed offset prefix) (committed offset (prefix ++ back))
+prefix_commits_prefix offset prefix back =
+    let h : IsPrefix (messages_of offset prefix) (messages_of offset (prefix ++ back)) = messages_prefix offset prefix back in
+    (committed_after ([] ++ messages_alone (messages_of offset prefix)) h.0, sym (committed_two (messages_of offset prefix) h.0 []) ∙ ap (λ (ps : List Placed). committed_after [] ps) h.1)
 
 -- ---- until the lines below its offset are read again, the checkpoint stays
 mark_same : (f ack last : Option ℕ) (pending : List Message) (w e : Bool) (p : Placed)

@@ -104,9 +104,9 @@ tail_at true q e f es fs h key a b same =
 tail_at false q e f es fs h key a b same =
     let x : is_at (by_bytes q) e.0 ≡ false = at_is q e.0 ∙ sym h in
     let y : is_at (by_bytes q) f.0 ≡ false = ap (λ (z : List ℕ). is_at (by_bytes q) z) (sym key) ∙ x in
-    let front : part_of q (e ∷ es) ≡ part_of q es = rw x refl in
+    let prefix : part_of q (e ∷ es) ≡ part_of q es = rw x refl in
     let back : part_of q (f ∷ fs) ≡ part_of q fs = rw y refl in
-    sym front ∙ same ∙ back
+    sym prefix ∙ same ∙ back
 
 -- two lists with the same keys, in order, of which each producer has the same, are one
 pub same_parts : (es fs : Parts) → InOrder es → keys_of es ≡ keys_of fs → ((q : List ℕ) → part_of q es ≡ part_of q fs) → es ≡ fs

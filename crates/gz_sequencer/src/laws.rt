@@ -14,10 +14,11 @@ pub fn released_is_committed()
     ensures { (ps : List Placed) → releases_of_all 0 [] ps ≡ released_in (committed_after [] ps) }
 {}
 
-/// What a front of a text commits is a front of what the text commits.
-#[tactic(auto, using(crate::proofs::Resuming::front_commits_front))]
-pub fn front_commits_front()
-    ensures { (offset : ℕ) (front back : List ℕ) → IsPrefix (committed offset front) (committed offset (front ++ back)) }
+/// What a prefix of a text commits is a prefix of what the text commits.
+#[tactic(auto, using(crate::proofs::Resuming::prefix_commits_prefix))]
+pub fn prefix_commits_prefix()
+    ensures { (offset : ℕ) (prefix back : List ℕ) →
+        IsPrefix (committed offset prefix) (committed offset (prefix ++ back)) }
 {}
 
 /// What one producer writes as transactions, whatever other producers' messages and other lines stand between: of this
@@ -26,7 +27,8 @@ pub fn front_commits_front()
 /// aren't acknowledged.
 #[tactic(auto, using(crate::proofs::Transactions::transactions_released))]
 pub fn transactions_are_released()
-    ensures { (offset : ℕ) (text producer : List ℕ) (ts : List Transaction) (waiting : List Line) → AreTransactions None ts waiting →
+    ensures { (offset : ℕ) (text producer : List ℕ) (ts : List Transaction) (waiting : List Line) →
+        AreTransactions None ts waiting →
         of_producer producer (messages_alone (messages_of offset text)) ≡ text_of ts ++ text_of_lines waiting →
         of_producer producer (released_in (committed offset text)) ≡ lines_in ts }
 {}
@@ -59,5 +61,6 @@ pub fn resumed_checkpoints_agree()
 /// Until the lines below the offset of a checkpoint are fed again, a sequencer that is made from it has this
 /// checkpoint, unchanged.
 pub fn checkpoint_stays()
-    ensures { (point : Point) (bytes : List ℕ) → (fed (resumed point) bytes).begin ≤ point.offset → point_of (fed (resumed point) bytes) ≡ point }
+    ensures { (point : Point) (bytes : List ℕ) → (fed (resumed point) bytes).begin ≤ point.offset →
+        point_of (fed (resumed point) bytes) ≡ point }
 {}

@@ -1,4 +1,12 @@
 //! Which messages of a text are released, from bytes that come in any pieces.
+//!
+//! ```text
+//! let mut sequencer = Sequencer::new(alloc, 0);
+//! sequencer.feed(sequencer.at(), bytes)?;
+//! while let Some(message) = sequencer.take_released() { .. }   // duplicates and open transactions left out
+//! let point = sequencer.checkpoint()?;
+//! let again = Sequencer::resume(alloc, &point)?;               // goes on as if it had never stopped
+//! ```
 #![tactic(auto)]
 
 mod laws;
@@ -10,7 +18,7 @@ mod sequencer;
 mod tests;
 
 pub use laws::{
-    checkpoint_stays, front_commits_front, given_is_committed, released_is_committed,
+    checkpoint_stays, given_is_committed, prefix_commits_prefix, released_is_committed,
     resumed_checkpoints_agree, resumed_releases_the_rest, transactions_are_released,
 };
 pub use point::{ProducerMark, SourcePoint};

@@ -61,7 +61,8 @@ fn release(
     clock: u64,
     out: &mut VecDeque<Message>,
 ) -> Result<(), NoMemory>
-    ensures { OnOk result (out.new.items ≡ out.old.items ++ filter (λ m. nat_le m.clock clock) pending.items) }
+    ensures { OnOk result
+        (out.new.items ≡ out.old.items ++ filter (λ m. nat_le m.clock clock) pending.items) }
 {
     while let Some(message) = pending.pop_front() {
         if message.parts().clock.value() <= clock {
@@ -145,7 +146,8 @@ impl Part {
         out: &mut VecDeque<Message>,
     ) -> Result<(), NoMemory>
         ensures part { OnOk result (self.new ≡ part_after self.old line) }
-        ensures out { OnOk result (out.new.items ≡ out.old.items ++ part_releases self.old line.message) }
+        ensures out { OnOk result
+            (out.new.items ≡ out.old.items ++ part_releases self.old line.message) }
     {
         let parts = line.message.parts();
         let clock = parts.clock.value();

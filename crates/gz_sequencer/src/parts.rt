@@ -69,7 +69,9 @@ impl Parts {
     // A message is read again.
     #[tactic(auto, using(crate::proofs::PartLookups::set_none))]
     fn take_again(&mut self, line: PlacedMessage) -> Result<(), NoMemory>
-        ensures { OnOk result (self.new ≡ set_value (is_at (slice_cmp nat_cmp line.message.producer)) self.old (part_again (part_of line.message.producer self.old) line)) }
+        ensures { OnOk result
+            (self.new ≡ set_value (is_at (slice_cmp nat_cmp line.message.producer)) self.old
+            (part_again (part_of line.message.producer self.old) line)) }
     {
         let producer = line.message.parts().producer;
         if let Some(part) = self.entries.get_mut(&producer) {
@@ -86,8 +88,12 @@ impl Parts {
         line: PlacedMessage,
         out: &mut VecDeque<Message>,
     ) -> Result<(), NoMemory>
-        ensures parts { OnOk result (self.new ≡ insert_entry (slice_cmp nat_cmp) self.old line.message.producer (part_after (part_of line.message.producer self.old) line)) }
-        ensures out { OnOk result (out.new.items ≡ out.old.items ++ part_releases (part_of line.message.producer self.old) line.message) }
+        ensures parts { OnOk result
+            (self.new ≡ insert_entry (slice_cmp nat_cmp) self.old line.message.producer
+            (part_after (part_of line.message.producer self.old) line)) }
+        ensures out { OnOk result
+            (out.new.items ≡ out.old.items
+            ++ part_releases (part_of line.message.producer self.old) line.message) }
     {
         let producer = line.message.parts().producer;
         let before = self.entries.insert(producer, Part::new(alloc))?;

@@ -104,16 +104,16 @@ fn in_pieces_of(rt: &impl Abort, alloc: Global, text: &[u8], size: usize) -> Res
     Ok(keys)
 }
 
-// What is released of the front of the text, and of the text by a sequencer that goes on from the front's checkpoint.
+// What is released of the prefix of the text, and of the text by a sequencer that goes on from the prefix's checkpoint.
 fn resumed_behind(
     rt: &impl Abort,
     alloc: Global,
-    front: &[Blob],
+    prefix: &[Blob],
     lines: &[Blob],
 ) -> Result<Blob, Fail> {
     let mut keys = Blob::new(alloc);
     let mut first = Sequencer::resume(alloc, &SourcePoint::new(alloc, 0))?;
-    feed_lines(rt, &mut first, front, &mut keys)?;
+    feed_lines(rt, &mut first, prefix, &mut keys)?;
     let point = first.checkpoint()?;
     let mut second = Sequencer::resume(alloc, &point)?;
     feed_lines(rt, &mut second, lines, &mut keys)?;
@@ -137,8 +137,8 @@ fn resumed_at_each_line(rt: HostRuntime) -> Result<(), Fail> {
     let alloc = rt.alloc();
     let lines = lines(alloc)?;
     for cut in 0..lines.len() {
-        let (front, _rest) = lines.as_slice().split_at(cut);
-        let keys = resumed_behind(&rt, alloc, front, lines.as_slice())?;
+        let (prefix, _rest) = lines.as_slice().split_at(cut);
+        let keys = resumed_behind(&rt, alloc, prefix, lines.as_slice())?;
         assert_eq!(rt; keys.as_slice(), RELEASED, "behind {cut} lines");
     }
     Ok(())

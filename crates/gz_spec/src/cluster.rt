@@ -227,7 +227,9 @@ impl Model for Specs {
 }
 
 fn read_each_journal(alloc: Global, path: &Blob, values: &[Value]) -> Result<Journals, FieldError>
-    ensures { Gives (λ js. js) result (each next_journal name_of_journal path.now 0 [] (items_view values.now)) }
+    ensures { Gives
+        (λ js. js) result
+        (each next_journal name_of_journal path.now 0 [] (items_view values.now)) }
 {
     let mut used = IndexSet::new(alloc);
     let mut journals = Vec::new(alloc);
@@ -253,7 +255,8 @@ pub fn read_journals(alloc: Global, value: &Value) -> Result<Journals, FieldErro
 }
 
 fn read_each_shard(alloc: Global, path: &Blob, values: &[Value]) -> Result<Shards, FieldError>
-    ensures { Gives (λ ss. ss) result (each next_shard id_of_shard path.now 0 [] (items_view values.now)) }
+    ensures { Gives
+        (λ ss. ss) result (each next_shard id_of_shard path.now 0 [] (items_view values.now)) }
 {
     let mut used = IndexSet::new(alloc);
     let mut shards = Vec::new(alloc);
@@ -286,7 +289,9 @@ fn read_each_member(
     used: &mut IndexSet<Name>,
     values: &[Value],
 ) -> Result<Members, FieldError>
-    ensures gives { Gives (λ ms. ms) result (each next_member id_of_member path.now 0 used.old.keys (items_view values.now)) }
+    ensures gives { Gives
+        (λ ms. ms) result
+        (each next_member id_of_member path.now 0 used.old.keys (items_view values.now)) }
     ensures noted { IfOk result (λ ms. used.new.keys ≡ used.old.keys ++ map id_of_member ms) }
 {
     let mut members = Vec::new(alloc);
@@ -301,7 +306,8 @@ fn read_each_member(
 /// Refuses a list of members that has too many with those of the used ids.
 #[tactic(auto, using(gz_fields::proofs::Counts::count_view))]
 fn refuse_crowd(path: &Blob, used: usize, values: &[Value]) -> Result<(), FieldError>
-    ensures { Gives (λ u. u) result (no_more_than max_members path.now (used + count (items_view values.now))) }
+    ensures { Gives
+        (λ u. u) result (no_more_than max_members path.now (used + count (items_view values.now))) }
 {
     if used > MAX_MEMBERS || values.len() > MAX_MEMBERS - used {
         return Err(FieldError::BadNumber { path: path.copy()? });

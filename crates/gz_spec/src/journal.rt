@@ -72,7 +72,10 @@ impl JournalSpec {
 
 /// Refuses fragments that are to be compressed.
 fn refuse_codec(alloc: Global, path: &Blob, fragment: &Value) -> Result<(), FieldError>
-    ensures { Gives (λ u. u) result (codec_if (below path.now (codes "compression_codec")) (get (codes "compression_codec") (view fragment.now))) }
+    ensures { Gives
+        (λ u. u) result
+        (codec_if (below path.now (codes "compression_codec"))
+        (get (codes "compression_codec") (view fragment.now))) }
 {
     let Some(codec) = fragment.get("compression_codec") else {
         return Ok(());

@@ -57,7 +57,9 @@ fn read_values(
     labels: &mut Vec<Label>,
 ) -> Result<(), FieldError>
     requires { length name.now ≤ 1024 }
-    ensures { Gives (λ _. labels.new.items) result (behind labels.old.items (labels_from path.now name.now 0 (items_view values.now))) }
+    ensures { Gives
+        (λ _. labels.new.items) result
+        (behind labels.old.items (labels_from path.now name.now 0 (items_view values.now))) }
 {
     for (i, value) in values.iter().enumerate() {
         let place = path_of_item(alloc, path, i)?;
@@ -76,7 +78,9 @@ fn read_labels_named(
     values: &Value,
     labels: &mut Vec<Label>,
 ) -> Result<(), FieldError>
-    ensures { Gives (λ _. labels.new.items) result (behind labels.old.items (labels_named path name.now (view values.now))) }
+    ensures { Gives
+        (λ _. labels.new.items) result
+        (behind labels.old.items (labels_named path name.now (view values.now))) }
 {
     if !is_name(name.as_bytes()) {
         return Err(FieldError::BadName { path });
@@ -94,7 +98,8 @@ fn read_all_labels(
     path: &Blob,
     members: &Map<String, Value>,
 ) -> Result<Vec<Label>, FieldError>
-    ensures { Gives (λ labels. labels.items) result (all_labels path.now (members_view members.now.entries)) }
+    ensures { Gives
+        (λ labels. labels.items) result (all_labels path.now (members_view members.now.entries)) }
 {
     let mut labels = Vec::new(alloc);
     for (name, values) in members {

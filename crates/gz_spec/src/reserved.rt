@@ -73,7 +73,9 @@ pub fn read_hint_prefix(
     value: &Value,
     name: &str,
 ) -> Result<Name, FieldError>
-    ensures { Gives (λ id. id) result (name_or is_hint_prefix (codes "hint") path.now name.now (view value.now)) }
+    ensures { Gives
+        (λ id. id) result
+        (name_or is_hint_prefix (codes "hint") path.now name.now (view value.now)) }
 {
     let Some(prefix) = value.get(name) else {
         let default = Name::of(alloc, "hint")?;

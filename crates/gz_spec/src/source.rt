@@ -136,7 +136,8 @@ fn read_next_source(
 }
 
 fn read_each_source(alloc: Global, path: &Blob, values: &[Value]) -> Result<Sources, FieldError>
-    ensures { Gives (λ s. s) result (each next_source journal_named path.now 0 [] (items_view values.now)) }
+    ensures { Gives
+        (λ s. s) result (each next_source journal_named path.now 0 [] (items_view values.now)) }
 {
     let mut used = IndexSet::new(alloc);
     let mut sources = Vec::new(alloc);

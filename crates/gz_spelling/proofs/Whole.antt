@@ -15,7 +15,7 @@ use Rattle.gz_spelling.specs.Messages.{tag_of, kinds_of, fields_of, msg_of, payl
 use Rattle.gz_codec.specs.Spelling.{text, fields, FitsText, FitEach}
 use Rattle.gz_codec.specs.Reading.{◌>>=◌, text_at, fields_at}
 use Rattle.gz_spelling.specs.Table.{kind_tagged, distinct, HasKind}
-use Rattle.gz_spelling.specs.Wire.{max_body, body_of, framed, spelling, body_in, named, peer_in, of_kind, msg_in, decoded, FitsMessage, told, Begins}
+use Rattle.gz_spelling.specs.Wire.{max_body, body_of, framed, spelling, body_in, named, peer_in, of_kind, msg_in, decoded, FitsMessage, decoded_of, Begins}
 use Rattle.gz_codec.proofs.Codec.{IsBytes, IsBytes-take, IsBytes-drop, Takes, bind_ok}
 use Rattle.gz_codec.proofs.Values.{text_codec, fields_take, fields_again}
 use Rattle.gz_spelling.proofs.Rows.{HasItsTag, tagged, made, Remade, remade, found_in}
@@ -54,7 +54,7 @@ pub all_again : (rows : List Row) (bytes body peer rest : List ℕ) (m : Msg) �
 unfolding decoded
 all_again rows bytes body peer rest m one two three = rw (one, two, three) refl
 
-pub read_again : (rows : List Row) (peer : List ℕ) (m : Msg) (more : List ℕ) → distinct rows ≡ true → AllByRecursion HasItsTag rows → HasKind (kind_of m) rows → FitsMessage peer m → decoded rows (spelling peer m ++ more) ≡ Ok (told peer m)
+pub read_again : (rows : List Row) (peer : List ℕ) (m : Msg) (more : List ℕ) → distinct rows ≡ true → AllByRecursion HasItsTag rows → HasKind (kind_of m) rows → FitsMessage peer m → decoded rows (spelling peer m ++ more) ≡ Ok (decoded_of peer m)
 unfolding body_of
 read_again rows peer m more apart have there fits =
     let row : kind_tagged (tag_of (kind_of m)) rows ≡ Some (kind_of m) = tagged (kind_of m) rows apart have there in
@@ -77,7 +77,7 @@ named_ok : {A : Type 0} (tag : ℕ) (r : Result A ℕ) (x : A) → named tag r �
 named_ok tag (Ok a) x e = let same : a ≡ x = ok_is a x e in ap (λ y. Ok y) same
 named_ok tag (Err f) x e = absurd cc
 
--- the length in front, the body, and what follows it
+-- the length in prefix, the body, and what follows it
 split_of : (bytes : List ℕ) (n : ℕ) (body : List ℕ) → IsBytes bytes → 4 ≤ length bytes → n ≡ from_le_bytes w32 (take 4 bytes) → take n (drop 4 bytes) ≡ body → length (take n (drop 4 bytes)) ≡ n → n ≤ max_body
     → (bytes ≡ framed body ++ drop (4 + length body) bytes) × (length body ≤ max_body) × IsBytes body
 unfolding framed
@@ -166,8 +166,8 @@ begins rows have bytes d fits e =
 pub no_prefix : (rows : List Row) → distinct rows ≡ true → AllByRecursion HasItsTag rows → (p q : List ℕ) (m n : Msg) (more : List ℕ) → HasKind (kind_of m) rows → HasKind (kind_of n) rows → FitsMessage p m → FitsMessage q n → spelling p m ++ more ≡ spelling q n
     → (p ≡ q) × (m ≡ n) × (more ≡ [])
 no_prefix rows apart have p q m n more here there one other same =
-    let read : decoded rows (spelling p m ++ more) ≡ ok (told q n) = ap (decoded rows) (same ∙ sym (append-nil (spelling q n))) ∙ read_again rows q n [] apart have there other in
-    let told_same : told p m ≡ told q n = ok_is (told p m) (told q n) (sym (read_again rows p m more apart have here one) ∙ read) in
+    let read : decoded rows (spelling p m ++ more) ≡ ok (decoded_of q n) = ap (decoded rows) (same ∙ sym (append-nil (spelling q n))) ∙ read_again rows q n [] apart have there other in
+    let told_same : decoded_of p m ≡ decoded_of q n = ok_is (decoded_of p m) (decoded_of q n) (sym (read_again rows p m more apart have here one) ∙ read) in
     let peers : p ≡ q = ap (λ (d : Decoded). d.peer) told_same in
     let msgs : m ≡ n = ap (λ (d : Decoded). d.msg) told_same in
     let spelled : spelling p m ≡ spelling q n = ap (λ (x : List ℕ). spelling x m) peers ∙ ap (λ (x : Msg). spelling q x) msgs in

@@ -35,8 +35,8 @@ abbrev pub FitsMessage : List ℕ → Msg → Type 0
 FitsMessage peer m = FitsText peer × FitEach (kinds_of (kind_of m)) (fields_of m) × (length (body_of peer m) ≤ max_body)
 
 -- the message of a spelling, and how many bytes it takes
-abbrev pub told : List ℕ → Msg → Decoded
-told peer m = record { peer = peer; msg = m; used = 4 + length (body_of peer m) }
+abbrev pub decoded_of : List ℕ → Msg → Decoded
+decoded_of peer m = record { peer = peer; msg = m; used = 4 + length (body_of peer m) }
 
 -- The bytes begin with the spelling of the message, which takes so many bytes.
 pub record Begins (bytes : List ℕ) (d : Decoded) : Type 0 where

@@ -7,7 +7,8 @@ ghost use Rattle.gz_spool.specs.Spools.{extended, raised, spool_end};
 /// A head never falls and never passes the end, and raising it moves nothing else. An entry moves the head not at all.
 pub fn heads_stay_within()
     ensures rises { (head : ℕ) (i : Image) → i.head ≤ (raised head i).head }
-    ensures within { (head : ℕ) (i : Image) → i.head ≤ spool_end i → (raised head i).head ≤ spool_end i }
+    ensures within { (head : ℕ) (i : Image) → i.head ≤ spool_end i →
+        (raised head i).head ≤ spool_end i }
     ensures keeps { (head : ℕ) (i : Image) → (raised head i).entries ≡ i.entries }
     ensures stays { (entry : Entry) (i : Image) → (extended entry i).head ≡ i.head }
 {}

@@ -41,7 +41,8 @@ impl Model for Spool {
 
 /// Where entries end that begin at this offset, or None where that is above the greatest end.
 fn end_within(begin: u64, entries: &[Entry]) -> Option<u64>
-    ensures { MatchOption result (max_end < begin + end_of entries.now) (λ end. (end ≡ begin + end_of entries.now) × (end ≤ max_end)) }
+    ensures { MatchOption result (max_end < begin + end_of entries.now)
+        (λ end. (end ≡ begin + end_of entries.now) × (end ≤ max_end)) }
 {
     if begin > MAX_END {
         return None;
@@ -60,9 +61,12 @@ fn end_within(begin: u64, entries: &[Entry]) -> Option<u64>
 /// How many entries stand before the offset, where it is the boundary of one. The first begins at `begin`.
 fn count_before(entries: &VecDeque<Entry>, begin: u64, offset: u64) -> Option<usize>
     requires { begin + end_of entries.now.items ≤ max_end }
-    ensures value { (base : List Label) → rest_from offset begin base entries.now.items ≡ rest_behind base entries.now.items result }
+    ensures value { (base : List Label) →
+        rest_from offset begin base entries.now.items ≡ rest_behind base entries.now.items result }
     ensures within { IfSome result (λ count. count ≤ length entries.now.items) }
-    ensures rest { IfSome result (λ count. offset + end_of (drop count entries.now.items) ≡ begin + end_of entries.now.items) }
+    ensures rest { IfSome result
+        (λ count. offset + end_of (drop count entries.now.items)
+        ≡ begin + end_of entries.now.items) }
 {
     let mut at = begin;
     let mut count = 0;
@@ -132,7 +136,8 @@ impl Spool {
     /// The image as a spool, or None exactly where its head isn't between its begin and its end, or its end
     /// is above 2^62. It takes no memory.
     pub fn adopt(image: Image) -> Option<Spool>
-        ensures { MatchOption result (is_image image ≡ false) (λ spool. (is_image image ≡ true) × (spool.image ≡ image)) }
+        ensures { MatchOption result (is_image image ≡ false)
+            (λ spool. (is_image image ≡ true) × (spool.image ≡ image)) }
     {
         let Image {
             begin,

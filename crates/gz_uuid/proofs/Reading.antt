@@ -43,7 +43,7 @@ two_bytes a b n a_fits b_fits number =
     let last : n % 2 ^ 8 ≡ b = omega arith in
     cc
 
--- four lists in front of another, each equal to one
+-- four lists before another, each equal to one
 joined : (a b c d a' b' c' d' rest : List ℕ) → a ≡ a' → b ≡ b' → c ≡ c' → d ≡ d' →
     a ++ b ++ c ++ d ++ rest ≡ a' ++ b' ++ c' ++ d' ++ rest
 joined a b c d a' b' c' d' rest p q r s = cc

@@ -217,7 +217,8 @@ pub fn copy_read_done(
     head: u64,
     route: &Names,
 ) -> Result<Msg, NoMemory>
-    ensures { IfOk result (λ msg. msg ≡ kinds.ReadDone req journal.now status offset content.now head route.now) }
+    ensures { IfOk result
+        (λ msg. msg ≡ kinds.ReadDone req journal.now status offset content.now head route.now) }
 {
     Ok(Msg::ReadDone {
         req,

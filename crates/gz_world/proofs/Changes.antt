@@ -36,10 +36,10 @@ rest_whole n js =
     take_all (length js - n) (drop n js) (omega (arith, count))
 
 -- the names behind the first ones, where they were copied
-pub rest_names : (specs : Specs) (there : ℕ) (names front : List (List ℕ)) (journals : List JournalSpec) → journals ≡ specs.journals
-    → names ≡ names_of_journals (take (length journals - there) (drop there journals)) → front ++ names_of_journals (drop there specs.journals) ≡ names_of_journals specs.journals
-    → front ++ names ≡ names_of_journals specs.journals
-rest_names specs there names front journals same copied named =
+pub rest_names : (specs : Specs) (there : ℕ) (names prefix : List (List ℕ)) (journals : List JournalSpec) → journals ≡ specs.journals
+    → names ≡ names_of_journals (take (length journals - there) (drop there journals)) → prefix ++ names_of_journals (drop there specs.journals) ≡ names_of_journals specs.journals
+    → prefix ++ names ≡ names_of_journals specs.journals
+rest_names specs there names prefix journals same copied named =
     rw (copied, rest_whole there journals, same) named
 
 -- ---- what a change asks for

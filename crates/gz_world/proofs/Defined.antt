@@ -2,7 +2,7 @@
 use Rattle.std.proofs.Common.{◌≡◌, ◌||◌, ℕ, List, [], ◌∷◌, map, refl, sym, ap, ◌∙◌, subst, Bool, true}
 use Rattle.std.specs.List.{list_all}
 use Rattle.std.specs.Str.{bytes_eq}
-use Rattle.gz_links.specs.Links.{held, is_lines, is_log, is_readable, log_name, outputs_of, is_linked, are_linked}
+use Rattle.gz_links.specs.Links.{framing_at, is_lines, is_log, is_readable, log_name, outputs_of, is_linked, are_linked}
 use Rattle.gz_spec.specs.Specs.{name_of_journal}
 use Rattle.gz_spec.specs.Valid.{is_shard}
 use Rattle.gz_spec.specs.Records.{Specs, JournalSpec, ShardSpec}
@@ -27,8 +27,8 @@ record IsDefined (js : List JournalSpec) (s : ShardSpec) : Type 0 where
 
 is_defined : (js : List JournalSpec) (s : ShardSpec) → is_shard s ≡ true → is_linked js s ≡ true → IsDefined js s
 is_defined js s good linked =
-    let a = and_parts (list_all (λ u. is_readable (held js u.journal)) s.sources) _ linked in
-    let b = and_parts (is_log (held js (log_name s))) (list_all (λ o. is_lines (held js o)) (outputs_of s)) a.1 in
+    let a = and_parts (list_all (λ u. is_readable (framing_at js u.journal)) s.sources) _ linked in
+    let b = and_parts (is_log (framing_at js (log_name s))) (list_all (λ o. is_lines (framing_at js o)) (outputs_of s)) a.1 in
     record { distinct = distinct_outputs s good; outputs = are_present js (outputs_of s) b.1; sources = sources_present js s.sources a.0 }
 
 each_defined : (js : List JournalSpec) (ss : List ShardSpec) → list_all is_shard ss ≡ true → are_linked js ss ≡ true → Each (IsDefined js) ss
@@ -69,7 +69,7 @@ all_linked specs js (e ∷ es) same each = (
 in_order_defined : (specs : Specs) → list_all is_shard specs.shards ≡ true → are_linked specs.journals specs.shards ≡ true → Shards (IsDefined specs.journals) (in_id_order specs.shards)
 in_order_defined specs good linked = each_in_order (IsDefined specs.journals) specs.shards (each_defined specs.journals specs.shards good linked)
 
--- the shards of linked specifications put out to journals of their names, and none twice to one
+-- the shards of linked specifications emitted to journals of their names, and none twice to one
 pub are_defined : (specs : Specs) (js : List Journal) → list_all is_shard specs.shards ≡ true → are_linked specs.journals specs.shards ≡ true → names_of js ≡ names_of_journals specs.journals
     → plain.AreDefined js (definitions_of specs.shards)
 are_defined specs js good linked same = all_defined specs.journals js (in_id_order specs.shards) same (in_order_defined specs good linked)

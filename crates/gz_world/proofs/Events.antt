@@ -72,9 +72,9 @@ is_line number d lawful =
     let key = is_text_within max_key d.key in
     let value = is_text_within max_value d.value in
     let parts = and_parts (clock && key) value lawful in
-    let front = and_parts clock key parts.0 in
-    let least : d.clock ≤ max_clock = at_most d.clock max_clock front.0 in
-    let texts = and_from key value front.1 parts.1 in
+    let prefix = and_parts clock key parts.0 in
+    let least : d.clock ≤ max_clock = at_most d.clock max_clock prefix.0 in
+    let texts = and_from key value prefix.1 parts.1 in
     lawful_line_reads_back (message_at (client_octets number) d)
     (and_from (key && value) (nat_le (flags_of d.flag) ack_txn) texts (flags_known d.flag))
     (record { octets = are_producer number; clock_fits = omega (arith, least); flags_fit = flags_few d.flag })
@@ -91,8 +91,8 @@ unfolding is_publish
 drafts_of p lawful =
     let known = nat_le p.producer max_producer in
     let drafts = list_all is_draft p.messages in
-    let front = is_id p.client && is_journal_name p.journal && nat_le 1 (length p.messages) in
-    (and_parts front drafts (and_parts (front && drafts) known lawful).0).1
+    let prefix = is_id p.client && is_journal_name p.journal && nat_le 1 (length p.messages) in
+    (and_parts prefix drafts (and_parts (prefix && drafts) known lawful).0).1
 
 -- ---- one event
 

@@ -21,7 +21,7 @@ use Rattle.gz_world.specs.Worlds.{World, after}
 use Rattle.gz_world.specs.Run.{max_input, started, judged, judged_first}
 use Rattle.gz_world.specs.Replays.{refused_or, Fails}
 
--- a reader's error is the refusal of a line, or the want of memory
+-- a reader's error is the refusal of a line, or out of memory
 pub read_gives : {Y : Type 0} (e : ScenarioError) (read : Result Y ScenarioError) → scenario.Fails e read → Fails (refused_or e) read
 read_gives (Limit line) read fails = fails
 read_gives (NotJson line) read fails = fails

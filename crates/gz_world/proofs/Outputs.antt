@@ -6,9 +6,9 @@ use Rattle.std.specs.Str.{bytes_eq}
 use Rattle.std.proofs.lemmas.Cmp.{tied_itself}
 use Rattle.std.proofs.lemmas.Slice.Eq.{bytes_eq-Decides}
 use Rattle.gz_label.specs.declared.label.Label.{Label}
-use Rattle.gz_label.specs.Labels.{label_cmp, comes_before, are_rising, is_label_set, labels_named}
-use Rattle.gz_label.proofs.Sets.{label_total, less, rising_of_set, is_label_set-filter}
-use Rattle.gz_links.specs.Links.{held, is_lines, is_readable, outputs_of}
+use Rattle.gz_label.specs.Labels.{label_cmp, comes_before, are_ascending, is_label_set, labels_named}
+use Rattle.gz_label.proofs.Sets.{label_total, less, ascending_of_set, is_label_set-filter}
+use Rattle.gz_links.specs.Links.{framing_at, is_lines, is_readable, outputs_of}
 use Rattle.gz_spec.specs.Framings.{framing_in}
 use Rattle.gz_fields.specs.Names.{is_id, is_journal_name}
 use Rattle.gz_spec.specs.Reserved.{is_hint_prefix}
@@ -56,20 +56,20 @@ not_same l m name first value =
     let wrong : is_lt Equal ≡ true = subst (λ (o : Ordering). is_lt o ≡ true) tied first in
     cc
 
-apart_values : (name : List ℕ) (l : Label) (ms : List Label) → l.name ≡ name → AllNamed name ms → comes_before l ms ≡ true → are_rising ms ≡ true → Apart l.value (map (λ x. x.value) ms)
+apart_values : (name : List ℕ) (l : Label) (ms : List Label) → l.name ≡ name → AllNamed name ms → comes_before l ms ≡ true → are_ascending ms ≡ true → Apart l.value (map (λ x. x.value) ms)
 apart_values name l [] is all first up = tt
 apart_values name l (m ∷ ms) is all first up =
-    let rest = and_parts (comes_before m ms) (are_rising ms) up in
+    let rest = and_parts (comes_before m ms) (are_ascending ms) up in
     let same : l.name ≡ m.name = is ∙ sym all.0 in (
       unequal l.value m.value (λ value. not_same l m same first value),
       unequal m.value l.value (λ value. not_same l m same first (sym value)),
       apart_values name l ms is all.1 (before_next l m ms first rest.0) rest.1,
     )
 
-distinct_values : (name : List ℕ) (ms : List Label) → AllNamed name ms → are_rising ms ≡ true → Distinct (map (λ x. x.value) ms)
+distinct_values : (name : List ℕ) (ms : List Label) → AllNamed name ms → are_ascending ms ≡ true → Distinct (map (λ x. x.value) ms)
 distinct_values name [] all up = tt
 distinct_values name (m ∷ ms) all up =
-    let rest = and_parts (comes_before m ms) (are_rising ms) up in
+    let rest = and_parts (comes_before m ms) (are_ascending ms) up in
     (apart_values name m ms all.0 all.1 rest.0 rest.1, distinct_values name ms all.1 rest.1)
 
 labels_of : (s : ShardSpec) → is_shard s ≡ true → is_label_set s.labels ≡ true
@@ -86,31 +86,31 @@ labels_of s good =
 pub distinct_outputs : (s : ShardSpec) → is_shard s ≡ true → Distinct (outputs_of s)
 distinct_outputs s good =
     let named = labels_named (codes "output") s.labels in
-    let up = rising_of_set named (is_label_set-filter (λ l. bytes_eq l.name (codes "output")) s.labels (labels_of s good)) in
+    let up = ascending_of_set named (is_label_set-filter (λ l. bytes_eq l.name (codes "output")) s.labels (labels_of s good)) in
     distinct_values (codes "output") named (all_named (codes "output") s.labels) up
 
 -- ---- journals
 
 present_if : (t : Option Framing → Bool) (j : JournalSpec) (js : List JournalSpec) (name : List ℕ) (b : Bool) → bytes_eq j.name name ≡ b
-    → (t (held js name) ≡ true → is_journal name (all_empty (map name_of_journal js)) ≡ true)
-    → t (cond b (Some (framing_in j.labels)) (held js name)) ≡ true → is_journal name (all_empty (map name_of_journal (j ∷ js))) ≡ true
+    → (t (framing_at js name) ≡ true → is_journal name (all_empty (map name_of_journal js)) ≡ true)
+    → t (cond b (Some (framing_in j.labels)) (framing_at js name)) ≡ true → is_journal name (all_empty (map name_of_journal (j ∷ js))) ≡ true
 present_if t j js name true is rest good = rw is refl
 present_if t j js name false is rest good = rw is (rest good)
 
 -- a journal that holds what is wanted is a journal
-pub is_present : (t : Option Framing → Bool) → t None ≡ false → (js : List JournalSpec) (name : List ℕ) → t (held js name) ≡ true → is_journal name (all_empty (map name_of_journal js)) ≡ true
+pub is_present : (t : Option Framing → Bool) → t None ≡ false → (js : List JournalSpec) (name : List ℕ) → t (framing_at js name) ≡ true → is_journal name (all_empty (map name_of_journal js)) ≡ true
 is_present t none [] name good = absurd (cc)
 is_present t none (j ∷ js) name good = present_if t j js name (bytes_eq j.name name) refl (is_present t none js name) good
 
-pub are_present : (js : List JournalSpec) (names : List (List ℕ)) → list_all (λ o. is_lines (held js o)) names ≡ true → ArePresent names (all_empty (map name_of_journal js))
+pub are_present : (js : List JournalSpec) (names : List (List ℕ)) → list_all (λ o. is_lines (framing_at js o)) names ≡ true → ArePresent names (all_empty (map name_of_journal js))
 are_present js [] all = tt
 are_present js (n ∷ names) all =
-    let parts = and_parts (is_lines (held js n)) (list_all (λ o. is_lines (held js o)) names) all in
+    let parts = and_parts (is_lines (framing_at js n)) (list_all (λ o. is_lines (framing_at js o)) names) all in
     (is_present is_lines refl js n parts.0, are_present js names parts.1)
 
-pub sources_present : (js : List JournalSpec) (us : List SourceSpec) → list_all (λ u. is_readable (held js u.journal)) us ≡ true
+pub sources_present : (js : List JournalSpec) (us : List SourceSpec) → list_all (λ u. is_readable (framing_at js u.journal)) us ≡ true
     → ArePresent (journals_of (map source_of us)) (all_empty (map name_of_journal js))
 sources_present js [] all = tt
 sources_present js (u ∷ us) all =
-    let parts = and_parts (is_readable (held js u.journal)) (list_all (λ v. is_readable (held js v.journal)) us) all in
+    let parts = and_parts (is_readable (framing_at js u.journal)) (list_all (λ v. is_readable (framing_at js v.journal)) us) all in
     (is_present is_readable refl js u.journal parts.0, sources_present js us parts.1)

@@ -62,28 +62,28 @@ replaced_count : {A : Type 0} (f : A → A) (xs : List A) → length (map f xs) 
 replaced_count f [] = refl
 replaced_count f (x ∷ xs) = ap (λ (n : ℕ). suc n) (replaced_count f xs)
 
-drop_front : {A : Type 0} (xs ys : List A) → drop (length xs) (xs ++ ys) ≡ ys
-drop_front [] ys = refl
-drop_front (x ∷ xs) ys = drop_front xs ys
+drop_prefix : {A : Type 0} (xs ys : List A) → drop (length xs) (xs ++ ys) ≡ ys
+drop_prefix [] ys = refl
+drop_prefix (x ∷ xs) ys = drop_prefix xs ys
 
 rest_is_new : {A : Type 0} (name_of : A → List ℕ) (old more : List A) → drop (length old) (joined name_of old more) ≡ filter (is_new name_of old) more
 rest_is_new name_of old more =
-    ap (λ (n : ℕ). drop n (joined name_of old more)) (sym (replaced_count (replaced name_of more) old)) ∙ drop_front (map (replaced name_of more) old) (filter (is_new name_of old) more)
+    ap (λ (n : ℕ). drop n (joined name_of old more)) (sym (replaced_count (replaced name_of more) old)) ∙ drop_prefix (map (replaced name_of more) old) (filter (is_new name_of old) more)
 
 -- behind the journals that are there come the new ones
 pub new_is_rest : (specs more all : Specs) → join_of specs more ≡ Ok all → drop (length specs.journals) all.journals ≡ new_journals specs more
 new_is_rest specs more all is =
     ap (λ (s : Specs). drop (length specs.journals) s.journals) (join_is_both specs more all is) ∙ rest_is_new name_of_journal specs.journals more.journals
 
-front_within : {A : Type 0} (xs ys : List A) → length xs ≤ length (xs ++ ys)
-front_within [] ys = omega arith
-front_within (x ∷ xs) ys = let rest = front_within xs ys in omega (arith, rest)
+prefix_within : {A : Type 0} (xs ys : List A) → length xs ≤ length (xs ++ ys)
+prefix_within [] ys = omega arith
+prefix_within (x ∷ xs) ys = let rest = prefix_within xs ys in omega (arith, rest)
 
 joined_within : {A : Type 0} (name_of : A → List ℕ) (old more : List A) → length old ≤ length (joined name_of old more)
 joined_within name_of old more =
-    let front : length (map (replaced name_of more) old) ≤ length (joined name_of old more) = front_within (map (replaced name_of more) old) (filter (is_new name_of old) more) in
+    let prefix : length (map (replaced name_of more) old) ≤ length (joined name_of old more) = prefix_within (map (replaced name_of more) old) (filter (is_new name_of old) more) in
     let count : length (map (replaced name_of more) old) ≡ length old = replaced_count (replaced name_of more) old in
-    omega (arith, front, count)
+    omega (arith, prefix, count)
 
 there_within : (specs more all : Specs) → join_of specs more ≡ Ok all → length specs.journals ≤ length all.journals
 there_within specs more all is =

@@ -13,7 +13,7 @@ refused_or (scenario.Unknown line) = Refused (scenario.Unknown line)
 refused_or (scenario.BadField line path) = Refused (scenario.BadField line path)
 refused_or scenario.NoMemory = NoMemory
 
--- an error is the refusal, or the want of memory; nothing was read
+-- an error is the refusal, or out of memory; nothing was read
 abbrev pub Fails : {Y : Type 0} → ReplayError → Result Y ScenarioError → Type 0
 Fails (Refused e) judged = judged ≡ Err e
 Fails Fault judged = ⊥

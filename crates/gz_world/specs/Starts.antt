@@ -21,7 +21,7 @@ use Rattle.gz_plain.specs.Sources.{Source}
 
 -- ---- the order of shards
 
--- the shards in rising order of their ids, each beside its id
+-- the shards in ascending order of their ids, each beside its id
 abbrev pub put_shards : List ShardSpec → List (List ℕ × ShardSpec) → List (List ℕ × ShardSpec)
 put_shards [] entries = entries
 put_shards (s ∷ ss) entries = put_shards ss (insert_entry (slice_cmp nat_cmp) entries s.id s)

@@ -3,7 +3,7 @@
 use Rattle.std.specs.Prelude.{◌≡◌, ℕ, ◌||◌, List, [], ◌∷◌, ◌++◌, length, Option, Some, None, Result, Ok, Err, Bool, true, false, if◌then◌else◌}
 use Rattle.std.specs.List.{list_all, list_any}
 use Rattle.gz_spec.specs.Reserved.{is_reserved}
-use Rattle.gz_links.specs.Links.{held}
+use Rattle.gz_links.specs.Links.{framing_at}
 use Rattle.gz_links.specs.Joins.{join_of}
 use Rattle.gz_spec.specs.Records.{Specs}
 use Rattle.gz_links.specs.declared.error.SpecError.{SpecError}
@@ -75,7 +75,7 @@ is_taken name registry = was_member name registry.members || is_reserved name
 -- of the cluster have no registers.
 abbrev pub answer_to : Request → Published → World → Answer
 answer_to r p w =
-    answer_of (refusal_of (is_taken p.client w.registry) (held w.specs.journals p.journal) (length r.content))
+    answer_of (refusal_of (is_taken p.client w.registry) (framing_at w.specs.journals p.journal) (length r.content))
     (judgement (length (text_of p.journal w.cluster.journals)) [] r).landed
 
 -- the content stands behind the journal, where the answer says so

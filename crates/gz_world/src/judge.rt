@@ -22,7 +22,8 @@ pub fn is_taken(name: &Name, registry: &Registry) -> bool
 
 /// The journal of this name; none where there is no such journal, and then the name has no text.
 pub fn journal_in<'a>(cluster: &'a Cluster, name: &[u8]) -> Option<&'a Journal>
-    ensures { MatchOption result (text_of name.now cluster.now.journals ≡ []) (λ journal. journal.now.text ≡ text_of name.now cluster.now.journals) }
+    ensures { MatchOption result (text_of name.now cluster.now.journals ≡ [])
+        (λ journal. journal.now.text ≡ text_of name.now cluster.now.journals) }
 {
     let journal = cluster.journals().get(cluster.place_of(name))?;
     Some(journal)
@@ -45,7 +46,9 @@ pub fn judge_in(
     name: &[u8],
     request: &Request,
 ) -> Result<Landed, NoMemory>
-    ensures { IfOk result (λ judged. judged ≡ (judgement (length (text_of name.now cluster.now.journals)) [] request.now).landed) }
+    ensures { IfOk result
+        (λ judged. judged
+        ≡ (judgement (length (text_of name.now cluster.now.journals)) [] request.now).landed) }
 {
     let none = LabelSet::new(alloc);
     let Judged { landed, .. } = judge(end_in(cluster, name), &none, request)?;

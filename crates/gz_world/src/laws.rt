@@ -10,12 +10,13 @@ ghost use Rattle.gz_world.specs.Run.{outcome_from, IsSaid};
 /// that it began with.
 pub fn a_world_is_the_run_of_its_events()
     ensures run { (lines : List (List ℕ)) (w : World) → outcome_from lines ≡ Ok (Some w) → IsRun w }
-    ensures said { (lines : List (List ℕ)) (w : World) → outcome_from lines ≡ Ok (Some w) → IsSaid lines w }
+    ensures said { (lines : List (List ℕ)) (w : World) → outcome_from lines ≡ Ok (Some w) →
+        IsSaid lines w }
 {}
 
 /// Whatever events a run had, whatever journals and shards they added or changed on the way: of each shard that kept the
 /// definition that it began with, each committed message of its sources is taken once and in order, its store is the
-/// application's fold over them, and readers of its outputs accept what the application puts out for them.
+/// application's fold over them, and readers of its outputs accept what the application emits for them.
 #[tactic(auto, using(crate::proofs::Promises::run_once))]
 pub fn every_run_is_exactly_once()
     ensures { (w : World) → IsRun w → AllExactlyOnce w.cluster.journals w.cluster.shards }
@@ -25,7 +26,8 @@ pub fn every_run_is_exactly_once()
 /// has no clocks left for what it would take, or has read all that its sources have committed.
 #[tactic(auto, using(crate::proofs::Promises::run_rests))]
 pub fn a_settle_ends_every_run()
-    ensures { (w : World) → IsRun w → AllRest (settled w).cluster.journals (settled w).cluster.shards }
+    ensures { (w : World) → IsRun w →
+        AllRest (settled w).cluster.journals (settled w).cluster.shards }
 {}
 
 /// What a report tells of a shard that kept its definition is so: `caught` exactly where nothing that its sources have
@@ -33,5 +35,6 @@ pub fn a_settle_ends_every_run()
 #[tactic(auto, using(crate::proofs::Promises::run_tells, crate::proofs::Promises::run_settled_tells))]
 pub fn what_a_report_tells_is_so()
     ensures caught { (w : World) → IsRun w → AllTellCaught w.cluster.journals w.cluster.shards }
-    ensures settled { (w : World) → IsRun w → AllUpToDate (settled w).cluster.journals (settled w).cluster.shards }
+    ensures settled { (w : World) → IsRun w →
+        AllUpToDate (settled w).cluster.journals (settled w).cluster.shards }
 {}

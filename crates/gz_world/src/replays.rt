@@ -15,6 +15,8 @@ use gz_base::{LineError, LineReader, Source};
 use gz_label::{Blob, NoMemory};
 use gz_scenario::{Event, ScenarioError, read_event};
 use std::alloc::Global;
+use std::error::Error;
+use std::fmt;
 
 /// The most bytes of a line, with its newline.
 const MAX_LINE: usize = 4_194_304;
@@ -32,6 +34,18 @@ pub enum ReplayError {
     NoMemory,
 }
 
+impl fmt::Display for ReplayError {
+    fn fmt<W: fmt::Write>(&self, f: &mut fmt::Formatter<W>) -> fmt::Result {
+        match self {
+            ReplayError::Refused(error) => write!(f, "{error}"),
+            ReplayError::Fault => write!(f, "the input can't be read"),
+            ReplayError::NoMemory => write!(f, "no memory"),
+        }
+    }
+}
+
+impl Error for ReplayError {}
+
 impl From<NoMemory> for ReplayError {
     ghost use Rattle.std.specs.Prelude.{◌≡◌};
     ghost use Rattle.gz_world.specs.declared.replays.ReplayError.TheVariants.{NoMemory};
@@ -43,7 +57,7 @@ impl From<NoMemory> for ReplayError {
     }
 }
 
-/// The refusal of a line, or the want of memory.
+/// The refusal of a line, or out of memory.
 fn refused_or(error: ScenarioError) -> ReplayError
     ensures { result ≡ refused_or error }
 {
@@ -115,9 +129,11 @@ fn take_line<S: Source>(
     input: &mut S,
     number: u64,
 ) -> Result<Option<Blob>, ReplayError>
-    ensures next { TakesNext result number (ahead reader.old (S.left input.old)) (ahead reader.new (S.left input.new)) (S.left input.new) }
+    ensures next { TakesNext result number (ahead reader.old (S.left input.old))
+        (ahead reader.new (S.left input.new)) (S.left input.new) }
     ensures faults_stay { S.faults input.old ≤ S.faults input.new }
-    ensures fault { result ≡ Err ReplayError.Fault → HasRisen (S.faults input.old) (S.faults input.new) }
+    ensures fault { result ≡ Err ReplayError.Fault →
+        HasRisen (S.faults input.old) (S.faults input.new) }
 {
     match reader.next_line(alloc, input, MAX_LINE) {
         Ok(line) => Ok(line),
@@ -137,11 +153,14 @@ fn go_on<S: Source>(
 ) -> Result<(), ReplayError>
     requires first { first ≤ 134217728 }
     requires run { IsRun world.old }
-    ensures done { OnOk result (RunsTo (ahead reader.old (S.left input.old)) first world.old (Ok world.new)) }
+    ensures done { OnOk result
+        (RunsTo (ahead reader.old (S.left input.old)) first world.old (Ok world.new)) }
     ensures end { OnOk result (IsAtEnd (S.left input.new)) }
-    ensures refused { (refusal : ScenarioError) → result ≡ Err (ReplayError.Refused refusal) → RunsTo (ahead reader.old (S.left input.old)) first world.old (Err refusal) }
+    ensures refused { (refusal : ScenarioError) → result ≡ Err (ReplayError.Refused refusal) →
+        RunsTo (ahead reader.old (S.left input.old)) first world.old (Err refusal) }
     ensures faults_stay { S.faults input.old ≤ S.faults input.new }
-    ensures fault { result ≡ Err ReplayError.Fault → HasRisen (S.faults input.old) (S.faults input.new) }
+    ensures fault { result ≡ Err ReplayError.Fault →
+        HasRisen (S.faults input.old) (S.faults input.new) }
 {
     let mut number = 2;
     let mut before = first;
@@ -161,9 +180,11 @@ fn go_on<S: Source>(
 pub fn replay<S: Source>(alloc: Global, input: &mut S) -> Result<Option<World>, ReplayError>
     ensures done { IfOk result (λ world. HasOutcome (S.left input.old) (Ok world)) }
     ensures end { OnOk result (IsAtEnd (S.left input.new)) }
-    ensures refused { (refusal : ScenarioError) → result ≡ Err (ReplayError.Refused refusal) → HasOutcome (S.left input.old) (Err refusal) }
+    ensures refused { (refusal : ScenarioError) → result ≡ Err (ReplayError.Refused refusal) →
+        HasOutcome (S.left input.old) (Err refusal) }
     ensures faults_stay { S.faults input.old ≤ S.faults input.new }
-    ensures fault { result ≡ Err ReplayError.Fault → HasRisen (S.faults input.old) (S.faults input.new) }
+    ensures fault { result ≡ Err ReplayError.Fault →
+        HasRisen (S.faults input.old) (S.faults input.new) }
 {
     let mut reader = LineReader::new(alloc)?;
     let next = take_line(alloc, &mut reader, input, 1)?;

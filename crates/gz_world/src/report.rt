@@ -116,7 +116,8 @@ fn print_line(
 }
 
 fn print_text(alloc: Global, out: &mut Blob, cluster: &Cluster, name: &Name) -> Result<(), NoMemory>
-    ensures { OnOk result (out.new ≡ out.old ++ journal_text name.now (text_of name.now cluster.now.journals)) }
+    ensures { OnOk result
+        (out.new ≡ out.old ++ journal_text name.now (text_of name.now cluster.now.journals)) }
 {
     match journal_in(cluster, name.as_slice()) {
         Some(journal) => {
@@ -134,7 +135,8 @@ fn print_journal(
     name: &Name,
     framing: Framing,
 ) -> Result<(), NoMemory>
-    ensures { OnOk result (out.new ≡ out.old ++ journal_line cluster.now.journals (name.now, framing)) }
+    ensures { OnOk result
+        (out.new ≡ out.old ++ journal_line cluster.now.journals (name.now, framing)) }
 {
     match framing {
         Framing::RecoveryLog => Ok(()),
@@ -150,7 +152,9 @@ fn print_journals(
     cluster: &Cluster,
     journals: &[JournalSpec],
 ) -> Result<(), NoMemory>
-    ensures { OnOk result (out.new ≡ out.old ++ flat_map (journal_line cluster.now.journals) (in_name_order journals.now)) }
+    ensures { OnOk result
+        (out.new ≡ out.old
+        ++ flat_map (journal_line cluster.now.journals) (in_name_order journals.now)) }
 {
     let table = in_name_order(alloc, journals)?;
     for (name, framing) in &table.entries {

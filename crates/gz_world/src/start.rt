@@ -56,7 +56,8 @@ fn kind_of(app: Option<AppKind>) -> AppKind
 #[tactic(auto, using(crate::proofs::Begun::small_offset, crate::proofs::Begun::small_sources_more, crate::proofs::Begun::named_more))]
 fn sources_of(alloc: Global, sources: &[SourceSpec]) -> Result<Vec<Source>, NoMemory>
     requires { IsTrue (list_all is_source sources.now) }
-    ensures value { IfOk result (λ copied. map source_named copied.items ≡ map source_of sources.now) }
+    ensures value { IfOk result
+        (λ copied. map source_named copied.items ≡ map source_of sources.now) }
     ensures small { IfOk result (λ copied. AreSmallSources copied.items) }
 {
     let mut copied = Vec::new(alloc);
@@ -136,9 +137,14 @@ pub fn change(
 ) -> Result<(), NoMemory>
     requires linked { IsTrue (are_linked specs.now.journals specs.now.shards) }
     requires there { there ≤ length specs.now.journals }
-    requires names { names_of cluster.old.journals ++ names_of_journals (drop there specs.now.journals) ≡ names_of_journals specs.now.journals }
+    requires names { names_of cluster.old.journals
+        ++ names_of_journals (drop there specs.now.journals)
+        ≡ names_of_journals specs.now.journals }
     requires few { length cluster.old.shards ≤ 256 }
-    ensures { OnOk result (cluster.new ≡ changed (names_of_journals (drop there specs.now.journals)) (definitions_of specs.now.shards) cluster.old) }
+    ensures { OnOk result
+        (cluster.new
+        ≡ changed (names_of_journals (drop there specs.now.journals))
+        (definitions_of specs.now.shards) cluster.old) }
 {
     let names = names(alloc, &specs.journals.as_slice()[there..])?;
     let definitions = definitions(alloc, specs.shards.as_slice())?;

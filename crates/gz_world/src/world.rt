@@ -17,7 +17,7 @@ use gz_history::History;
 use gz_journal::Request;
 use gz_keyspace::Joined;
 use gz_label::{Blob, Name, NoMemory};
-use gz_links::{SpecError, held, join};
+use gz_links::{SpecError, framing_at, join};
 use gz_plain::Cluster;
 use gz_registry::{Registry, RegistryError};
 use gz_scenario::{Event, Join, MemberKind, Publish};
@@ -95,7 +95,7 @@ impl World {
         ensures { IfOk result (λ answer. answer ≡ answer_to request.now publish.now self.now) }
     {
         let is_taken = is_taken(&publish.client, &self.registry);
-        let framing = held(self.specs.journals.as_slice(), publish.journal.as_slice());
+        let framing = framing_at(self.specs.journals.as_slice(), publish.journal.as_slice());
         match refusal(is_taken, framing, request.content.len() as u64) {
             Some(answer) => Ok(answer),
             None => {
@@ -139,7 +139,8 @@ impl World {
     /// Tells what became of a publish: the answer, or that the event is refused.
     fn tell(&mut self, line: u64, client: &Name, answer: Answer) -> Result<Applied, NoMemory>
         ensures applied { IfOk result (λ applied. applied ≡ applied_unless (reason_of answer)) }
-        ensures told { OnOk result (self.new ≡ told_of (reason_of answer) line client.now answer self.old) }
+        ensures told { OnOk result
+            (self.new ≡ told_of (reason_of answer) line client.now answer self.old) }
     {
         match reason_of(&answer) {
             Some(reason) => self.refuse(line, reason),
@@ -152,7 +153,10 @@ impl World {
 
     fn publish(&mut self, alloc: Global, line: u64, publish: &Publish) -> Result<Applied, NoMemory>
         requires { IsTrue (is_publish publish.now) }
-        ensures applied { IfOk result (λ applied. applied ≡ applied_unless (reason_of (answer_to (request_of line publish.now) publish.now self.old))) }
+        ensures applied { IfOk result
+            (λ applied. applied
+            ≡ applied_unless
+            (reason_of (answer_to (request_of line publish.now) publish.now self.old))) }
         ensures done { OnOk result (self.new ≡ published line publish.now self.old) }
     {
         let request = request_of(alloc, line, publish)?;
@@ -174,8 +178,12 @@ impl World {
         requires part { IsTrue (is_apply more.now) }
         requires specified { IsSpecified self.old.specs self.old.cluster }
         requires joined { join_of self.old.specs more.now ≡ Ok all }
-        ensures applied { IfOk result (λ applied. applied ≡ applied_if (registered all (put_answer more.now self.old.registry))) }
-        ensures after { OnOk result (self.new ≡ with_specs line more.now self.old (registered all (put_answer more.now self.old.registry))) }
+        ensures applied { IfOk result
+            (λ applied. applied
+            ≡ applied_if (registered all (put_answer more.now self.old.registry))) }
+        ensures after { OnOk result
+            (self.new ≡ with_specs line more.now self.old
+            (registered all (put_answer more.now self.old.registry))) }
     {
         match self.registry.put(more) {
             Ok(_revision) => {
@@ -195,8 +203,10 @@ impl World {
     fn add_specs(&mut self, alloc: Global, line: u64, more: &Specs) -> Result<Applied, NoMemory>
         requires part { IsTrue (is_apply more.now) }
         requires specified { IsSpecified self.old.specs self.old.cluster }
-        ensures applied { IfOk result (λ applied. applied ≡ applied_if (judged_apply self.old more.now)) }
-        ensures after { OnOk result (self.new ≡ with_specs line more.now self.old (judged_apply self.old more.now)) }
+        ensures applied { IfOk result
+            (λ applied. applied ≡ applied_if (judged_apply self.old more.now)) }
+        ensures after { OnOk result
+            (self.new ≡ with_specs line more.now self.old (judged_apply self.old more.now)) }
     {
         match join(alloc, &self.specs, more) {
             Ok(all) => self.take_specs(alloc, line, more, all),
@@ -209,8 +219,10 @@ impl World {
     #[tactic(auto, unfolding(gz_scenario::specs::Lawful::is_joiner))]
     fn join(&mut self, line: u64, join: &Join) -> Result<Applied, NoMemory>
         requires { IsTrue (is_joiner join.now.member) }
-        ensures applied { IfOk result (λ applied. applied ≡ applied_if (judged_join self.old join.now)) }
-        ensures after { OnOk result (self.new ≡ with_registry line self.old (judged_join self.old join.now)) }
+        ensures applied { IfOk result
+            (λ applied. applied ≡ applied_if (judged_join self.old join.now)) }
+        ensures after { OnOk result
+            (self.new ≡ with_registry line self.old (judged_join self.old join.now)) }
     {
         let id = &join.member.id;
         if is_taken(id, &self.registry) || self.clients.contains(id) {
@@ -231,8 +243,10 @@ impl World {
 
     /// Ends the lease of a member, where it is live.
     fn expire(&mut self, line: u64, member: &Name) -> Result<Applied, NoMemory>
-        ensures applied { IfOk result (λ applied. applied ≡ applied_if (judged_expire self.old member.now)) }
-        ensures after { OnOk result (self.new ≡ with_registry line self.old (judged_expire self.old member.now)) }
+        ensures applied { IfOk result
+            (λ applied. applied ≡ applied_if (judged_expire self.old member.now)) }
+        ensures after { OnOk result
+            (self.new ≡ with_registry line self.old (judged_expire self.old member.now)) }
     {
         match self.registry.expire(member) {
             Ok(_revision) => Ok(Applied::Done),

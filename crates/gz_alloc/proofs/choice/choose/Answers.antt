@@ -1,6 +1,6 @@
 use Rattle.std.proofs.Common.{◌≡◌, true, sym, ap, subst, ◌∙◌}
 use Rattle.gz_alloc.specs.Flow.{Keeps, total, cells_of}
-use Rattle.gz_alloc.specs.Rising.{rising}
+use Rattle.gz_alloc.specs.Ascending.{ascending}
 use Rattle.gz_alloc.specs.Names.{net_of, greedy, pairs_of, IsFeasibleOf}
 use Rattle.gz_alloc.proofs.Certificate.{greedy_of_size, greedy_not_size}
 use Rattle.gz_alloc.proofs.PickLemmas.{pairs_feasible}
@@ -56,7 +56,7 @@ returns-clause-choice c =
     }
 
 pub returns-then-count-greatest-clause-ordered : goal.returns-then-count-greatest-clause-ordered
-returns-then-count-greatest-clause-ordered c = subst (λ l. rising l ≡ true) (sym c.in_ok-kept.ensures) (table_rises c.args.problem.now c.requires.problem (cells_of c.args.first.now))
+returns-then-count-greatest-clause-ordered c = subst (λ l. ascending l ≡ true) (sym c.in_ok-kept.ensures) (table_rises c.args.problem.now c.requires.problem (cells_of c.args.first.now))
 
 pub returns-clause-ordered : goal.returns-clause-ordered
-returns-clause-ordered c = subst (λ l. rising l ≡ true) (sym c.in_ok-found.ensures) (table_rises c.args.problem.now c.requires.problem (cells_of c.args.flags.now))
+returns-clause-ordered c = subst (λ l. ascending l ≡ true) (sym c.in_ok-found.ensures) (table_rises c.args.problem.now c.requires.problem (cells_of c.args.flags.now))

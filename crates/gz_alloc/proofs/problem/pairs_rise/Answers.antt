@@ -1,5 +1,5 @@
 use Rattle.std.proofs.Common.{◌<◌, length, sym, ◌∙◌, arith}
-use Rattle.gz_alloc.specs.Rising.{below_next}
+use Rattle.gz_alloc.specs.Ascending.{below_next}
 use Rattle.gz_alloc.proofs.NameLemmas.{all_to_fails}
 use Rattle.gz_alloc.proofs.problem.pairs_rise.Goals as goal
 

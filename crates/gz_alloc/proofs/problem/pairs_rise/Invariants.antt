@@ -1,6 +1,6 @@
 use Rattle.std.proofs.Common.{◌≡◌, true}
 use Rattle.gz_alloc.specs.Sums.{all_to}
-use Rattle.gz_alloc.specs.Rising.{below_next}
+use Rattle.gz_alloc.specs.Ascending.{below_next}
 use Rattle.gz_alloc.proofs.problem.pairs_rise.Given as goal
 
 -- the pairs so far rise

@@ -8,7 +8,7 @@ returns-clause-frame c =
     let same : c.within.result ≡ unframed c.args.bytes.now = search rules in
     found_if c.within.result c.args.bytes.now (slice_fits c.args.bytes.now c.type_inv.bytes) same
 
-pub returns-clause-front : goal.returns-clause-front
-returns-clause-front c =
+pub returns-clause-prefix : goal.returns-clause-prefix
+returns-clause-prefix c =
     let same : c.within.result ≡ unframed c.args.bytes.now = search rules in
     needed_if c.within.result c.args.bytes.now (slice_fits c.args.bytes.now c.type_inv.bytes) same

@@ -1,4 +1,4 @@
-use Rattle.gz_print.proofs.Fronts.{back_turn}
+use Rattle.gz_print.proofs.Prefixes.{back_turn}
 use Rattle.gz_print.proofs.print.label_members.Goals as goal
 
 pub loop-i-preserved : goal.loop-i-preserved

@@ -6,7 +6,7 @@ use Rattle.gz_base.proofs.lines.LineReader.next_line.Goals as goal
 pub returns-in-Some-clause-line : goal.returns-in-Some-clause-line
 returns-in-Some-clause-line g c =
     let found = rw c.unread-bytes.ensures at c.in-Some.ensures.value in
-    let e = c.in_ok-take_front-in-Some.ensures in
+    let e = c.in_ok-take_prefix-in-Some.ensures in
     takes_whole _ _ c.reads.self _ _ c.in-Some.n c.reads.invariant.same (sym found) e.0 e.1
 
 pub returns-then-have-limit-clause-too_long : goal.returns-then-have-limit-clause-too_long
@@ -17,7 +17,7 @@ returns-then-have-limit-clause-too_long g c =
 pub returns-then-n-eq0-clause-line : goal.returns-then-n-eq0-clause-line
 returns-then-n-eq0-clause-line g c =
     let missing = rw c.unread-bytes.ensures at c.in-None.ensures.value in
-    let e = c.in_ok-take_front.ensures in
+    let e = c.in_ok-take_prefix.ensures in
     last_line _ _ _ _ _ c.reads.self _ _ _ c.reads.invariant.same c.in_ok-n.ensures.more c.if-n-eq0.true (c.in_ok-n.ensures.end c.if-n-eq0.true) (sym missing) (sym (ap length c.unread-bytes.ensures)) c.if-have-eq0.false e.0 e.1
 
 pub reads-preserved : goal.reads-preserved

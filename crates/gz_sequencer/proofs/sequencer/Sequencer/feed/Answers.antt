@@ -1,10 +1,10 @@
 use Rattle.std.proofs.Common.{◌≡◌, ◌+◌, ◌++◌, List, ℕ, length, ap, sym, ◌∙◌, arith}
 use Rattle.gz_sequencer.specs.Machine.{Machine, at}
-use Rattle.gz_sequencer.proofs.Feeding.{whole_front, fed_split, at_split, smaller, fed_open}
+use Rattle.gz_sequencer.proofs.Feeding.{whole_prefix, fed_split, at_split, smaller, fed_open}
 use Rattle.gz_sequencer.proofs.sequencer.Sequencer.feed.Goals as goal
 
 pub take_line-requires-clause-whole : goal.take_line-requires-clause-whole
-take_line-requires-clause-whole c = whole_front c.lines.rest.now c.split_at.result.0.now c.in-Some.len c.in-Some.ensures.value c.in-Some.ensures.within c.split_at.ensures.front
+take_line-requires-clause-whole c = whole_prefix c.lines.rest.now c.split_at.result.0.now c.in-Some.len c.in-Some.ensures.value c.in-Some.ensures.within c.split_at.ensures.front
 
 pub take_line-requires-clause-small : goal.take_line-requires-clause-small
 take_line-requires-clause-small c = omega (arith, c.split_at.ensures.front_len, c.in-Some.ensures.within, c.lines.invariant.small)

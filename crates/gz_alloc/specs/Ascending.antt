@@ -16,5 +16,5 @@ pair_at pairs k = slice_index_or pairs k ([], [])
 abbrev pub below_next : List (List ℕ × List ℕ) → ℕ → Bool
 below_next pairs k = if nat_lt (k + 1) (length pairs) then is_lt (pair_order (pair_at pairs k) (pair_at pairs (k + 1))) else true
 
-abbrev pub rising : List (List ℕ × List ℕ) → Bool
-rising pairs = all_to (length pairs) (below_next pairs)
+abbrev pub ascending : List (List ℕ × List ℕ) → Bool
+ascending pairs = all_to (length pairs) (below_next pairs)
