@@ -27,7 +27,7 @@ abbrev order : List ℕ → List ℕ → Ordering
 order = slice_cmp nat_cmp
 
 -- every pair is above this one
-abbrev IsAbove : Pair → List Pair → Type 0
+abbrev pub IsAbove : Pair → List Pair → Type 0
 IsAbove p [] = ⊤
 IsAbove p (q ∷ qs) = (pair_order p q ≡ Less) × IsAbove p qs
 
@@ -67,7 +67,7 @@ above_at p [] k above lt = absurd (omega (arith, lt))
 above_at p (q ∷ qs) zero above lt = above.0
 above_at p (q ∷ qs) (suc k) above lt = above_at p qs k above.1 (omega (arith, lt))
 
-ascending_step : (ps : List Pair) (k : ℕ) → IsAscending ps → suc k < length ps → pair_order (pair_at ps k) (pair_at ps (suc k)) ≡ Less
+pub ascending_step : (ps : List Pair) (k : ℕ) → IsAscending ps → suc k < length ps → pair_order (pair_at ps k) (pair_at ps (suc k)) ≡ Less
 ascending_step [] k up lt = absurd (omega (arith, lt))
 ascending_step (p ∷ ps) zero up lt = above_at p ps 0 up.0 (omega (arith, lt))
 ascending_step (p ∷ ps) (suc k) up lt = ascending_step ps k up.1 (omega (arith, lt))
@@ -175,12 +175,12 @@ size_is_length asked ok ps known up =
 
 -- ---- the pairs of a table
 
-above_append : (p : Pair) (xs ys : List Pair) → IsAbove p xs → IsAbove p ys → IsAbove p (xs ++ ys)
+pub above_append : (p : Pair) (xs ys : List Pair) → IsAbove p xs → IsAbove p ys → IsAbove p (xs ++ ys)
 above_append p [] ys a b = b
 above_append p (x ∷ xs) ys a b = (a.0, above_append p xs ys a.1 b)
 
 -- each of the first pairs is below all of the others
-abbrev EachBelow : List Pair → List Pair → Type 0
+abbrev pub EachBelow : List Pair → List Pair → Type 0
 EachBelow [] ys = ⊤
 EachBelow (x ∷ xs) ys = IsAbove x ys × EachBelow xs ys
 
@@ -188,7 +188,7 @@ below_append : (xs ys zs : List Pair) → EachBelow xs zs → EachBelow ys zs �
 below_append [] ys zs a b = b
 below_append (x ∷ xs) ys zs a b = (a.0, below_append xs ys zs a.1 b)
 
-ascending_append : (xs ys : List Pair) → IsAscending xs → IsAscending ys → EachBelow xs ys → IsAscending (xs ++ ys)
+pub ascending_append : (xs ys : List Pair) → IsAscending xs → IsAscending ys → EachBelow xs ys → IsAscending (xs ++ ys)
 ascending_append [] ys a b below = b
 ascending_append (x ∷ xs) ys a b below = (above_append x xs ys a.0 below.0, ascending_append xs ys a.1 b below.1)
 

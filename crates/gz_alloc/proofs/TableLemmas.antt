@@ -153,7 +153,7 @@ or_false true = refl
 or_false false = refl
 
 -- a hit is at the pair's places
-hit_at : (asked : Asked) → is_problem asked ≡ true → (p : List ℕ × List ℕ) (i m : ℕ) → i < items (net_of asked) → m < members (net_of asked) →
+pub hit_at : (asked : Asked) → is_problem asked ≡ true → (p : List ℕ × List ℕ) (i m : ℕ) → i < items (net_of asked) → m < members (net_of asked) →
     hit asked p i m ≡ ((place_of p.0 (item_names asked) == i) && (place_of p.1 (member_names asked) == m))
 hit_at asked problem p i m li lm =
     ap (λ b. b && same p.1 (name_at (member_names asked) m)) (same_place (item_names asked) ((asked_facts asked problem).items_rise) p.0 i (below i (items (net_of asked)) (length (item_names asked)) (length-map asked.items (λ i. i.replicas) ∙ sym (length-map asked.items (λ i. i.name))) li))

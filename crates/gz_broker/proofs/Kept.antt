@@ -1,12 +1,15 @@
 -- What is put to the store, what is sent again, and what comes late, worked out by hand and computed.
-use Rattle.std.specs.Prelude.{◌≡◌, ℕ, List, [], ◌∷◌, true, false, Option, Some, None, codes, refl}
+use Rattle.std.specs.Prelude.{◌≡◌, List, [], ◌∷◌, true, false, Option, Some, None, codes, refl}
 use Rattle.std.specs.Fmt.{digits}
 use Rattle.gz_label.specs.declared.entry.Image.{Image}
 use Rattle.gz_spec.specs.Records.{JournalSpec}
 use Rattle.gz_wire.specs.declared.msg.Send.{Send}
 use Rattle.gz_wire.specs.declared.msg.Msg.TheVariants.{Adopt, Head, Held, KsChange, KsSince, KsTxn, KsTxnNo, KsTxnOk, Promise, Promised, Replicate, StoreDone, StoreList, StorePut}
 use Rattle.gz_spool.specs.Spools.{empty_at}
-use Rattle.gz_replica.specs.Member.{Part, Route, Adopting, Open, Opening, Syncing, send}
+use Rattle.gz_replica.specs.declared.part.Route.{Route}
+use Rattle.gz_replica.specs.declared.part.Part.{Part}
+use Rattle.gz_replica.specs.declared.part.Part.TheVariants.{Adopting, Open, Opening, Syncing}
+use Rattle.gz_replica.specs.Member.{send}
 use Rattle.gz_replica.specs.Opening.{keys, store}
 use Rattle.gz_broker.specs.Brokers.{Broker, Deliver, Flush, Row, Watch, idle}
 use Rattle.gz_broker.specs.Closing.{is_to_put}

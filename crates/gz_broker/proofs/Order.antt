@@ -1,6 +1,5 @@
 -- Refusals in their order, and the further answers of an append, worked out by hand and computed.
-use Rattle.std.specs.Prelude.{◌≡◌, ℕ, ◌-◌, ◌^◌, List, [], ◌∷◌, length, nat_lt, true, Option, Some, None, Err, codes, refl}
-use Rattle.gz_label.specs.declared.label.Label.{Label}
+use Rattle.std.specs.Prelude.{◌≡◌, ℕ, ◌-◌, ◌^◌, List, [], ◌∷◌, length, nat_lt, true, Some, None, Err, codes, refl}
 use Rattle.gz_label.specs.declared.entry.Entry.{Entry}
 use Rattle.gz_label.specs.declared.name.LabelError.TheVariants.{BadName}
 use Rattle.gz_label.specs.declared.selector.Term.{Term}
@@ -8,7 +7,8 @@ use Rattle.gz_label.specs.declared.selector.Term.TheVariants.{Has}
 use Rattle.gz_spec.specs.declared.framing.Framing.TheVariants.{Lines}
 use Rattle.gz_wire.specs.declared.msg.Send.{Send}
 use Rattle.gz_wire.specs.declared.msg.Msg.TheVariants.{AppendDone, Head, Held, Promise, Promised}
-use Rattle.gz_replica.specs.Member.{send, Closed}
+use Rattle.gz_replica.specs.declared.part.Part.TheVariants.{Closed}
+use Rattle.gz_replica.specs.Member.{send}
 use Rattle.gz_broker.specs.Brokers.{Row, Broker, Outcome, row_of}
 use Rattle.gz_broker.specs.Taking.{then_do}
 use Rattle.gz_broker.specs.Judging.{max_content}

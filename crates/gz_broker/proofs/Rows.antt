@@ -1,6 +1,6 @@
 -- Steps, worked out by hand and computed: each refusal of an append, each answer of a read, and a route of three that
 -- opens and takes an append.
-use Rattle.std.specs.Prelude.{◌≡◌, ℕ, List, [], ◌∷◌, ◌++◌, length, nat_lt, true, false, Option, Some, None, codes, refl}
+use Rattle.std.specs.Prelude.{◌≡◌, ℕ, List, [], ◌∷◌, length, nat_lt, true, false, Option, Some, None, codes, refl}
 use lib.Utf8.{encode}
 use Rattle.std.specs.Fmt.{digits}
 use Rattle.std.specs.Str.Lossy.{utf8_valid_len}
@@ -11,19 +11,20 @@ use Rattle.json.specs.Text.{content}
 use Rattle.gz_label.specs.declared.label.Label.{Label}
 use Rattle.gz_label.specs.declared.entry.Entry.{Entry}
 use Rattle.gz_label.specs.declared.entry.Image.{Image}
-use Rattle.gz_journal.specs.declared.request.Request.{Request}
 use Rattle.gz_fields.specs.Names.{is_id, is_journal_name}
 use Rattle.gz_spec.specs.Records.{JournalSpec}
 use Rattle.gz_spec.specs.Journals.{journal_of, journal_at, journal_with}
 use Rattle.gz_spec.specs.declared.framing.Framing.TheVariants.{Bytes}
 use Rattle.gz_wire.specs.declared.msg.Msg.{Msg}
-use Rattle.gz_wire.specs.declared.msg.Msg.TheVariants.{KsTxn, KsTxnOk, KsChange, Promise, Promised, Adopt, Adopted, Replicate, Held, Head, Append, AppendDone, ReadDone, StoreList, StoreNames, StoreGet, StoreGot}
+use Rattle.gz_wire.specs.declared.msg.Msg.TheVariants.{KsTxn, KsTxnOk, KsChange, Promise, Promised, Adopt, Adopted, Replicate, Held, Head, Append, AppendDone, ReadDone, StoreList, StoreNames, StoreGet}
 use Rattle.gz_wire.specs.declared.msg.Send.{Send}
-use Rattle.gz_replica.specs.Member.{Part, Member, Closed, Open, send}
+use Rattle.gz_replica.specs.declared.part.Part.{Part}
+use Rattle.gz_replica.specs.declared.part.Part.TheVariants.{Closed, Open}
+use Rattle.gz_replica.specs.Member.{send}
 use Rattle.gz_replica.specs.Opening.{keys, store}
 use Rattle.gz_replica.specs.Replicating.{on_promise}
 use Rattle.gz_spool.specs.Spools.{empty_at}
-use Rattle.gz_broker.specs.Brokers.{Answer, Row, Broker, Outcome, Item, Deliver, RouteHeld, idle}
+use Rattle.gz_broker.specs.Brokers.{Row, Broker, Outcome, Item, Deliver, RouteHeld, idle}
 use Rattle.gz_broker.specs.Closing.{ruled}
 use Rattle.gz_broker.specs.Taking.{then_do}
 use Rattle.gz_broker.specs.Judging.{max_content}

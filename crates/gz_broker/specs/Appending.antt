@@ -1,9 +1,8 @@
 -- What a broker does with an append. Refusals that need no look at the journal come first, in their order
 -- (`refusal_of`); then the request is judged at the spool's end; its answer waits until the head is there.
-use Rattle.std.specs.Prelude.{ℕ, ◌+◌, ◌==◌, List, [], ◌∷◌, ◌++◌, length, Bool, true, false, not, ◌&&◌, ◌||◌, Option, Some, None, Result, Ok, Err, if◌then◌else◌, nat_lt}
+use Rattle.std.specs.Prelude.{ℕ, ◌==◌, List, [], ◌∷◌, ◌++◌, length, Bool, true, false, not, ◌&&◌, ◌||◌, Option, Some, None, Result, Ok, Err, if◌then◌else◌, nat_lt}
 use Rattle.std.specs.Str.{bytes_eq}
 use Rattle.gz_label.specs.declared.label.Label.{Label}
-use Rattle.gz_label.specs.declared.entry.Entry.{Entry}
 use Rattle.gz_label.specs.declared.name.LabelError.{LabelError}
 use Rattle.gz_label.specs.declared.selector.Term.{Term}
 use Rattle.gz_label.specs.Selectors.{selector_of}
@@ -17,10 +16,12 @@ use Rattle.gz_spec.specs.declared.framing.Framing.{Framing}
 use Rattle.gz_spec.specs.Framings.{framing_in}
 use Rattle.gz_spec.specs.Records.{JournalSpec}
 use Rattle.gz_spool.specs.Spools.{spool_end, spool_registers}
-use Rattle.gz_replica.specs.Member.{Part, Member, Closed, Opening, Adopting, Syncing, Open, open_epoch_of}
+use Rattle.gz_replica.specs.declared.part.Part.{Part}
+use Rattle.gz_replica.specs.declared.part.Part.TheVariants.{Closed, Opening, Adopting, Syncing, Open}
+use Rattle.gz_replica.specs.Member.{Member, open_epoch_of}
 use Rattle.gz_replica.specs.Member as member
 use Rattle.gz_replica.specs.Primary.{put_entry}
-use Rattle.gz_broker.specs.Brokers.{Answer, Queued, Row, Broker, Outcome, answers_with, RouteHeld, append_done, row_of, spec_of, route_of}
+use Rattle.gz_broker.specs.Brokers.{Answer, Row, Broker, Outcome, answers_with, RouteHeld, append_done, row_of, spec_of, route_of}
 use Rattle.gz_broker.specs.Closing.{by_rule}
 use Rattle.gz_broker.specs.Judging.{max_content, is_framed, is_forbidden}
 

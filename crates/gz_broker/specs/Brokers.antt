@@ -1,7 +1,7 @@
 -- A broker: its mirror of the keys, and what it keeps of each journal. The files beside this one say what it does, in
 -- this order: one rule of one journal and what follows from it (`Closing`), changes of the keys (`Taking`), appends
 -- (`Judging`, `Appending`), the store (`Persisting`), reads (`Reading`), what is sent again (`Resuming`), and the step.
-use Rattle.std.specs.Prelude.{ℕ, ◌+◌, ◌==◌, List, [], ◌∷◌, ◌++◌, Bool, Option, Some, None, Result, Ok, Err, if◌then◌else◌, codes, nat_le}
+use Rattle.std.specs.Prelude.{ℕ, List, [], ◌∷◌, ◌++◌, Bool, Option, Some, None, Result, Ok, Err, if◌then◌else◌, codes, nat_le}
 use Rattle.std.specs.Str.{bytes_eq}
 use Rattle.gz_label.specs.declared.label.Label.{Label}
 use Rattle.gz_wire.specs.declared.msg.Send.{Send}

@@ -3,13 +3,14 @@
 -- closed and the put is forgotten; where it stays open, answers up to the head go out, then what the rule sends, then a
 -- put if the head rose and there is a fragment's length.
 use Rattle.std.specs.Prelude.{ℕ, ◌+◌, ◌-◌, ◌==◌, List, [], ◌∷◌, ◌++◌, take, Bool, false, ◌&&◌, Option, Some, None, is_none, if◌then◌else◌, nat_le, nat_lt}
-use Rattle.gz_wire.specs.declared.msg.Msg.{Msg}
 use Rattle.gz_wire.specs.declared.msg.Send.{Send}
 use Rattle.gz_wire.specs.declared.msg.Msg.TheVariants.{StorePut}
 use Rattle.gz_label.specs.declared.entry.Image.{Image}
 use Rattle.gz_journal.specs.JournalList.{text_of}
 use Rattle.gz_spec.specs.Records.{JournalSpec}
-use Rattle.gz_replica.specs.Member.{Part, Member, Closed, Opening, Adopting, Syncing, Open, send}
+use Rattle.gz_replica.specs.declared.part.Part.{Part}
+use Rattle.gz_replica.specs.declared.part.Part.TheVariants.{Closed, Opening, Adopting, Syncing, Open}
+use Rattle.gz_replica.specs.Member.{Member, send}
 use Rattle.gz_replica.specs.Member as member
 use Rattle.gz_replica.specs.Opening.{store}
 use Rattle.gz_broker.specs.Brokers.{Answer, Queued, Row, Broker, Outcome, append_done, row_of, with_row, spec_of, reached, waiting}

@@ -1,7 +1,6 @@
 -- What an append's content may be: its length, its form, and what a client may not write.
-use Rattle.std.specs.Prelude.{ℕ, suc, zero, ◌==◌, List, [], ◌∷◌, length, drop, Bool, true, false, not, ◌&&◌, ◌||◌, Option, Some, None, is_some, Result, Ok, Err, if◌then◌else◌, nat_lt}
+use Rattle.std.specs.Prelude.{ℕ, suc, zero, ◌==◌, List, length, drop, Bool, true, false, ◌||◌, Result, Ok, Err}
 use Rattle.std.specs.List.{list_any, slice_index}
-use Rattle.gz_label.specs.declared.label.Label.{Label}
 use Rattle.gz_spec.specs.declared.framing.Framing.{Framing}
 use Rattle.gz_spec.specs.declared.framing.Framing.TheVariants.{Lines, FixedFrames, RecoveryLog, Bytes}
 use Rattle.gz_frame.specs.declared.frame.FrameError.{FrameError}

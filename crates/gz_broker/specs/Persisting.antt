@@ -1,6 +1,7 @@
 -- What a primary gives to the store.
-use Rattle.std.specs.Prelude.{ℕ, ◌+◌, ◌==◌, List, [], ◌∷◌, Bool, true, false, Option, Some, None, if◌then◌else◌, nat_lt}
-use Rattle.gz_replica.specs.Member.{Part, Open}
+use Rattle.std.specs.Prelude.{ℕ, ◌+◌, ◌==◌, List, [], ◌∷◌, Bool, false, Option, Some, None, if◌then◌else◌, nat_lt}
+use Rattle.gz_replica.specs.declared.part.Part.{Part}
+use Rattle.gz_replica.specs.declared.part.Part.TheVariants.{Open}
 use Rattle.gz_replica.specs.Primary.{on_stored}
 use Rattle.gz_broker.specs.Brokers.{Outstanding, Row, Broker, Outcome, idle, row_of, with_row, spec_of}
 use Rattle.gz_broker.specs.Closing.{putting, store_put, has_fragment, by_rule}

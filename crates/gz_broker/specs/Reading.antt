@@ -1,6 +1,6 @@
 -- What a broker does with a read: it gives what its spool has below its head, asks the store for what is below its
 -- begin, or says why there is nothing.
-use Rattle.std.specs.Prelude.{ℕ, ◌+◌, ◌-◌, ◌==◌, List, [], ◌∷◌, ◌++◌, take, drop, min, filter, not, Bool, false, Option, Some, None, is_none, if◌then◌else◌, nat_le, nat_lt}
+use Rattle.std.specs.Prelude.{ℕ, ◌+◌, ◌-◌, ◌==◌, List, [], ◌∷◌, ◌++◌, take, drop, min, filter, not, Bool, Option, Some, None, if◌then◌else◌, nat_le, nat_lt}
 use Rattle.std.specs.Str.{bytes_eq}
 use Rattle.std.specs.List.{list_any}
 use Rattle.gz_label.specs.declared.entry.Image.{Image}
@@ -9,7 +9,7 @@ use Rattle.gz_spec.specs.Records.{JournalSpec}
 use Rattle.gz_wire.specs.declared.msg.Msg.{Msg}
 use Rattle.gz_wire.specs.declared.msg.Msg.TheVariants.{ReadDone, StoreGet}
 use Rattle.gz_replica.specs.Opening.{store}
-use Rattle.gz_broker.specs.Brokers.{Fetch, Row, Broker, Outcome, idle, answers_with, RouteHeld, row_of, spec_of, route_of}
+use Rattle.gz_broker.specs.Brokers.{Fetch, Broker, Outcome, idle, answers_with, RouteHeld, row_of, spec_of, route_of}
 
 -- the most bytes that a read is answered
 abbrev pub max_read : ℕ

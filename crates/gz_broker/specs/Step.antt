@@ -1,15 +1,14 @@
 -- A broker's step: state and item in, state and sends out. Nothing is left free.
-use Rattle.std.specs.Prelude.{ℕ, ◌==◌, ◌&&◌, List, [], ◌∷◌, ◌++◌, Bool, true, false, Option, Some, None, if◌then◌else◌, nat_le, max}
+use Rattle.std.specs.Prelude.{ℕ, ◌==◌, List, [], ◌∷◌, ◌++◌, Bool, true, false, Option, Some, None, if◌then◌else◌, nat_le, max}
 use Rattle.gz_label.specs.declared.entry.Image.{Image}
-use Rattle.gz_label.specs.declared.keys.Change.{Change}
 use Rattle.gz_wire.specs.declared.msg.Msg.{Msg}
 use Rattle.gz_wire.specs.declared.msg.Send.{Send}
-use Rattle.gz_wire.specs.declared.msg.Msg.TheVariants.{KsTxn, KsTxnOk, KsTxnNo, KsSince, KsSinceDone, KsChange, KsGrant, KsGranted, Promise, Promised, Adopt, Adopted, Refuse, Replicate, Held, Head, Append, AppendDone, Read, ReadDone, StorePut, StoreDone, StoreGet, StoreGot, StoreList, StoreNames}
+use Rattle.gz_wire.specs.declared.msg.Msg.TheVariants.{KsTxnOk, KsTxnNo, KsSinceDone, KsChange, Promise, Promised, Adopt, Adopted, Replicate, Held, Head, Append, Read, StoreDone, StoreGot, StoreNames}
 use Rattle.gz_journal.specs.JournalList.{max_end}
 use Rattle.gz_fragment.specs.Names.{FragmentName, name_in}
 use Rattle.gz_spool.specs.Spools.{is_image}
-use Rattle.gz_replica.specs.Member.{Part, Member, Closed, Opening, Adopting, Syncing, Open}
-use Rattle.gz_replica.specs.Member as member
+use Rattle.gz_replica.specs.declared.part.Part.{Part}
+use Rattle.gz_replica.specs.declared.part.Part.TheVariants.{Syncing}
 use Rattle.gz_replica.specs.Opening.{on_promised, on_store_end, on_adopted, on_synced, on_sync_refused}
 use Rattle.gz_replica.specs.Replicating.{on_promise, on_adopt, on_replicate, on_head}
 use Rattle.gz_replica.specs.Primary.{on_held}

@@ -1,28 +1,25 @@
 -- Each kind of field, and all fields of a message: what is read is spelled so, and what is spelled so is read.
-use Rattle.std.proofs.Common.{◌≡◌, ℕ, ◌+◌, ◌^◌, ◌<◌, ◌≤◌, ◌&&◌, Bool, true, false, cond, eqb, nat_le, List, [], ◌∷◌, ◌++◌, length, Option, Some, None, Result, Ok, Err, refl, sym, ap, subst, ◌∙◌, append_assoc, arith}
+use Rattle.std.proofs.Common.{◌≡◌, ℕ, ◌+◌, ◌^◌, ◌<◌, Bool, true, false, cond, eqb, nat_le, List, [], ◌∷◌, ◌++◌, length, Option, Result, Ok, Err, refl, ap, subst, ◌∙◌, arith}
 use Rattle.std.proofs.lemmas.Grind.{common_steps}
 use Rattle.std.specs.Int.{w16, w32, w64}
 use Rattle.std.specs.List.{list_all, AllByRecursion}
 use Rattle.std.proofs.lemmas.Bool.{eqb-true}
-use Rattle.std.proofs.lemmas.List.{nil_from_length, append-nil}
+use Rattle.std.proofs.lemmas.List.{nil_from_length}
 use Rattle.gz_label.specs.declared.label.Label.{Label}
-use Rattle.gz_label.specs.declared.entry.Attempt.{Attempt}
 use Rattle.gz_label.specs.declared.entry.Entry.{Entry}
 use Rattle.gz_label.specs.declared.entry.Image.{Image}
 use Rattle.gz_label.specs.declared.keys.KeyWrite.{KeyWrite}
 use Rattle.gz_label.specs.declared.keys.Compare.{Compare}
 use Rattle.gz_label.specs.declared.keys.Change.{Change}
 use Rattle.gz_label.specs.declared.name.LabelError.{LabelError}
-use Rattle.gz_label.specs.declared.name.LabelError.TheVariants.{BadName}
-use Rattle.gz_label.specs.Names.{name_of}
 use Rattle.gz_label.specs.Labels.{is_label, is_label_name, is_label_value, is_label_set}
 use Rattle.gz_label.proofs.Plain.{name_of_label_name, name_of_label_value}
 use Rattle.gz_label.proofs.Sets.{both_left, both_right, valid_of_set, few_of_set}
 use Rattle.gz_codec.specs.declared.field.FieldKind.{FieldKind}
 use Rattle.gz_codec.specs.declared.field.FieldKind.TheVariants as kinds
-use Rattle.gz_codec.specs.Spelling.{Value, Fields, number, text, content, flagged, counted, label, labels, entry, image, write, writes, compare, change, value, fields, is_name, FitsNumber, FitsText, FitsContent, FitsIfSome, FitsEach, FitsLabels, FitsEntry, FitsImage, FitsWrite, FitsCompare, FitsChange, Fits, FitEach}
-use Rattle.gz_codec.specs.Reading.{◌>>=◌, Reader, number_at, string_at, text_at, content_at, flagged_at, counted_at, label_at, labels_at, entry_at, image_at, write_at, writes_at, compare_at, change_at, value_at, end_at, fields_at}
-use Rattle.gz_codec.proofs.Codec.{IsBytes, IsCodec, Takes, bind_ok, guard_passed, wide16, wide32, wide64, number_codec, string_codec, tested_codec, flagged_codec, counted_codec, pair_codec, Parts, four_codec}
+use Rattle.gz_codec.specs.Spelling.{Fields, number, text, content, flagged, counted, label, labels, entry, image, write, writes, compare, change, value, fields, is_name, FitsNumber, FitsText, FitsContent, FitsIfSome, FitsEach, FitsLabels, FitsEntry, FitsImage, FitsWrite, FitsCompare, FitsChange, Fits, FitEach}
+use Rattle.gz_codec.specs.Reading.{◌>>=◌, number_at, string_at, text_at, content_at, flagged_at, counted_at, label_at, labels_at, entry_at, image_at, write_at, writes_at, compare_at, change_at, value_at, end_at, fields_at}
+use Rattle.gz_codec.proofs.Codec.{IsBytes, IsCodec, bind_ok, guard_passed, wide16, wide32, wide64, number_codec, string_codec, tested_codec, flagged_codec, counted_codec, pair_codec, Parts, four_codec}
 
 number64_codec : IsCodec number FitsNumber (number_at w64)
 unfolding number

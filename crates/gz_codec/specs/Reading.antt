@@ -1,9 +1,8 @@
 -- Reading the fields of a message from left to right, up to the first that isn't spelled by its kind.
-use Rattle.std.specs.Prelude.{ℕ, zero, suc, ◌+◌, ◌==◌, List, [], ◌∷◌, length, take, drop, Option, Some, None, Result, Ok, Err, Bool, nat_lt, if◌then◌else◌}
+use Rattle.std.specs.Prelude.{◌≡◌, ℕ, zero, suc, ◌+◌, ◌==◌, List, [], ◌∷◌, length, take, drop, Option, Some, None, Result, Ok, Err, Bool, nat_lt, if◌then◌else◌}
 use Rattle.std.specs.Int.{Width, w16, w32, w64, byte_len, from_be_bytes}
 use Rattle.gz_label.specs.Labels.{is_label_set}
 use Rattle.gz_label.specs.declared.label.Label.{Label}
-use Rattle.gz_label.specs.declared.entry.Attempt.{Attempt}
 use Rattle.gz_label.specs.declared.entry.Entry.{Entry}
 use Rattle.gz_label.specs.declared.entry.Image.{Image}
 use Rattle.gz_label.specs.declared.keys.KeyWrite.{KeyWrite}
@@ -11,6 +10,8 @@ use Rattle.gz_label.specs.declared.keys.Compare.{Compare}
 use Rattle.gz_label.specs.declared.keys.Change.{Change}
 use Rattle.gz_codec.specs.declared.field.FieldKind.{FieldKind}
 use Rattle.gz_codec.specs.declared.field.FieldKind.TheVariants as kinds
+use Rattle.gz_codec.specs.declared.error.FieldError.{FieldError}
+use Rattle.gz_codec.specs.declared.error.FieldError.TheVariants as errors
 use Rattle.gz_codec.specs.Spelling.{Value, Fields, is_name}
 
 infixl 10 ◌>>=◌
@@ -136,3 +137,13 @@ end_at field bytes = if length bytes == 0 then Ok tt else Err field
 abbrev pub fields_at : (ks : List FieldKind) → ℕ → List ℕ → Result (Fields ks) ℕ
 fields_at [] field bytes = end_at field bytes
 fields_at (k ∷ ks) field bytes = value_at k field bytes >>= λ v. fields_at ks (field + 1) v.1 >>= λ vs. Ok (v.0, vs)
+
+-- ---- what a reader of the code returned, seen by view, is what reading gives, unless memory ran out
+
+abbrev pub Fails : {Y : Type 0} → FieldError → Result Y ℕ → Type 0
+Fails errors.NoMemory read = Unit {0}
+Fails (errors.Bad field) read = read ≡ Err field
+
+abbrev pub Gives : {X Y : Type 0} → (X → Y) → Result X FieldError → Result Y ℕ → Type 0
+Gives view (Ok x) read = read ≡ Ok (view x)
+Gives view (Err e) read = Fails e read

@@ -5,7 +5,6 @@ use Rattle.std.specs.Int.{Width, w16, w32, w64, to_be_bytes}
 use Rattle.gz_label.specs.Names.{is_utf8, max_name}
 use Rattle.gz_label.specs.Labels.{is_label_set}
 use Rattle.gz_label.specs.declared.label.Label.{Label}
-use Rattle.gz_label.specs.declared.entry.Attempt.{Attempt}
 use Rattle.gz_label.specs.declared.entry.Entry.{Entry}
 use Rattle.gz_label.specs.declared.entry.Image.{Image}
 use Rattle.gz_label.specs.declared.keys.KeyWrite.{KeyWrite}

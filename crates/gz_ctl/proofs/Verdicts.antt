@@ -12,8 +12,8 @@ use Rattle.gz_world.specs.Worlds.{World, IsRun, settled}
 use Rattle.gz_world.specs.Report.{report_of}
 use Rattle.gz_world.specs.Run.{outcome_of, outcome_from, IsSaid, refusal_line}
 use Rattle.gz_world.specs.Told.{HasOutcome}
-use Rattle.gz_plain.specs.Promise.{AllExactlyOnce}
-use Rattle.gz_plain.specs.Order.{AllRest}
+use Rattle.gz_plain.specs.Promise.{AllCommitLines, AllExactlyOnce, AllServe}
+use Rattle.gz_plain.specs.Rests.{AllRest}
 use Rattle.gz_plain.specs.Reports.{AllTellCaught, AllUpToDate}
 use Rattle.gz_ctl.specs.Commands.{usage_text, read_fault_text}
 use Rattle.gz_ctl.specs.Answers.{IsVerdict, IsReport, IsRefusal, IsReplayText, WritesReport, WritesRefusal, WritesPrefix, IsAnswer, HasReport, KeepsIf, KeepsAlong}
@@ -25,12 +25,14 @@ pub record Laws : Type 0 where
   pub run : (lines : List (List ℕ)) (w : World) → outcome_from lines ≡ Ok (Some w) → IsRun w
   pub said : (lines : List (List ℕ)) (w : World) → outcome_from lines ≡ Ok (Some w) → IsSaid lines w
   pub once : (w : World) → IsRun w → AllExactlyOnce w.cluster.journals w.cluster.shards
+  pub users : (w : World) → IsRun w → AllServe w.cluster.journals w.cluster.shards
+  pub lines : (w : World) → IsRun w → AllCommitLines w.cluster.journals w.cluster.shards
   pub rests : (w : World) → IsRun w → AllRest (settled w).cluster.journals (settled w).cluster.shards
   pub told : (w : World) → IsRun w → AllTellCaught w.cluster.journals w.cluster.shards
   pub settled_told : (w : World) → IsRun w → AllUpToDate (settled w).cluster.journals (settled w).cluster.shards
 
 keeps : Laws → (lines : List (List ℕ)) (w : World) → outcome_from lines ≡ Ok (Some w) → KeepsPromise w
-keeps l lines w is = let r = l.run lines w is in record { run = r; once = l.once w r; rests = l.rests w r; told = l.told w r; settled_told = l.settled_told w r }
+keeps l lines w is = let r = l.run lines w is in record { run = r; once = l.once w r; users = l.users w r; lines = l.lines w r; rests = l.rests w r; told = l.told w r; settled_told = l.settled_told w r }
 
 keeps_if : Laws → (input : List ℕ) (w : Option World) → outcome_of input ≡ Ok w → KeepsIf w
 keeps_if l input None is = tt
@@ -61,9 +63,6 @@ usage_prefix true input old new risen no_command prefix = cc
 usage_prefix false input old new risen no_command prefix = (usage_text, refl, prefix)
 
 -- ---- a verdict
-
-pub no_write_fault : (exit : Exit) (text : List ℕ) (left rest : Option (List ℕ)) (faults risen : ℕ) → IsVerdict exit text left rest faults risen → exit ≢ WriteFault
-no_write_fault exit text left rest faults risen verdict is = subst (λ (e : Exit). IsVerdict e text left rest faults risen) is verdict
 
 text_of : (exit : Exit) (text : List ℕ) (left rest : Option (List ℕ)) (faults risen : ℕ) → IsVerdict exit text left rest faults risen → IsReplayText left (HasRisen faults risen) text
 text_of Done text left rest faults risen v = report_text left (HasRisen faults risen) text v.0

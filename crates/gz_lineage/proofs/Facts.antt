@@ -287,7 +287,8 @@ AllOk K g ls = Each (LetterOk K g) ls
 -- ---- of one rule
 
 -- What each rule keeps: there is a history that goes on from the old one, moved by this broker alone, in which all facts
--- hold of epochs, of the broker and of what it sends. The journal and the greatest open epoch are what its part says.
+-- hold of epochs, of the broker and of what it sends. The journal and the greatest open epoch are what its part says. A
+-- list that moved is now the broker's spool.
 pub record Kept (K : Keys) (g : Ghost) (n : ℕ) (out : Outcome) : Type 0 where
   pub after : Ghost
   pub grows : Grows g after
@@ -299,3 +300,4 @@ pub record Kept (K : Keys) (g : Ghost) (n : ℕ) (out : Outcome) : Type 0 where
   pub top : after.top ≤ risen g.top out.node.part
   pub taken : after.taken ≡ g.taken
   pub gone : (m : ℕ) → after.gone m ≡ g.gone m
+  pub texts : (e : ℕ) → (after.text e ≡ g.text e) ⊎ (after.text e ≡ out.node.spool)

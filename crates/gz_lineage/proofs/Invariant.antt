@@ -1,7 +1,7 @@
 -- The invariant of a run: the history exists, and all facts hold of it and of the state. Here are its record and the
 -- steps that move no broker: a letter is taken without effect, sent, lost, or a broker stops.
 use Rattle.gz_lineage.specs.Marks.{Mark}
-use Rattle.std.proofs.Common.{◌≡◌, ℕ, ◌<◌, ◌≤◌, List, [], ◌∷◌, ◌++◌, length, take, refl, ap, sym, ◌∙◌, arith, Bool, true, false, inl, inr}
+use Rattle.std.proofs.Common.{◌≡◌, ℕ, ◌<◌, ◌≤◌, List, [], ◌∷◌, ◌++◌, length, take, refl, ap, sym, ◌∙◌, arith, Bool, true, false, ◌⊎◌, inl, inr}
 use Rattle.gz_lineage.specs.Prefix.{IsPrefix}
 use Rattle.gz_lineage.specs.Lists.{In, Each}
 use Rattle.gz_lineage.specs.Nodes.{Route, Part, Node, Letter, Closed, Opening, Adopting, Syncing, Open}
@@ -44,10 +44,11 @@ pub record Inv (w : Worlds) : Type 0 where
   pub synced_of : (s : ℕ) → In s w.syncs → 0 < s → K.synced s ≡ true
   pub found : (e : ℕ) → K.known e ≡ true → (o : Route) × In o w.state.routes × (o.epoch ≡ e)
 
--- the invariant holds after a step, and history has gone on
+-- The invariant holds after a step, and history has gone on. A list that moved is now some broker's spool.
 pub record Went {w : Worlds} (i : Inv w) (v : Worlds) : Type 0 where
   pub after : Inv v
   pub grows : Grows i.g after.g
+  pub texts : (e : ℕ) → (after.g.text e ≡ i.g.text e) ⊎ ((n : ℕ) × (after.g.text e ≡ (node_at v.state.nodes n).spool))
 
 pub each_remove : {A : Type 0} (P : A → Type 0) (xs : List A) (k : ℕ) → Each P xs → Each P (remove xs k)
 each_remove P [] zero a = tt
@@ -208,7 +209,7 @@ takes w i l flight sends stored a b p more =
 pub takes_went : (w : Worlds) (i : Inv w) (l : Letter) (flight sends : List Letter) (stored : List Mark) → AllOk i.K i.g flight → AllOk i.K i.g sends → IsPrefix stored w.journal → length w.state.stored ≤ length stored →
     Went i (World.recorded w (World.sent (record w.state { stored = stored }) flight l sends))
 unfolding takes
-takes_went w i l flight sends stored a b p more = record { after = takes w i l flight sends stored a b p more; grows = take_ghost i.g l }
+takes_went w i l flight sends stored a b p more = record { after = takes w i l flight sends stored a b p more; grows = take_ghost i.g l; texts = λ e. inl refl }
 
 -- nothing is taken, and the nodes stay
 pub sends_more : (w : Worlds) (i : Inv w) (flight sends : List Letter) → AllOk i.K i.g flight → AllOk i.K i.g sends →
@@ -261,11 +262,11 @@ stays w i flight a = record {
 pub sends_went : (w : Worlds) (i : Inv w) (flight sends : List Letter) → AllOk i.K i.g flight → AllOk i.K i.g sends →
     Went i (World.recorded w (record { state = record w.state { flight = flight ++ sends }; taken = []; sends = sends }))
 unfolding sends_more
-sends_went w i flight sends a b = record { after = sends_more w i flight sends a b; grows = grows_refl i.g }
+sends_went w i flight sends a b = record { after = sends_more w i flight sends a b; grows = grows_refl i.g; texts = λ e. inl refl }
 
 pub stays_went : (w : Worlds) (i : Inv w) (flight : List Letter) → AllOk i.K i.g flight → Went i (World.recorded w (World.still (record w.state { flight = flight })))
 unfolding stays
-stays_went w i flight a = record { after = stays w i flight a; grows = grows_refl i.g }
+stays_went w i flight a = record { after = stays w i flight a; grows = grows_refl i.g; texts = λ e. inl refl }
 
 pub stopped_set : (runs : List Bool) (n m : ℕ) → slice_index_or runs m false ≡ false → slice_index_or (slice_set runs n false) m false ≡ false
 stopped_set [] n m e = e
@@ -295,6 +296,7 @@ stops w i n =
     let a = i.global in
     record {
       grows = up;
+      texts = λ e. inl refl;
       after = record {
         K = i.K;
         g = h;

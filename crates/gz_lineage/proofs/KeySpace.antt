@@ -38,6 +38,7 @@ step_keys_ok w i flight l (Txn e) f a = cond_both (eqb e (World.latest w.state.r
     let ok : MessageOk L i'.g Rules.keys l.from (TxnOk e) = upd_here i.K.synced e true in
     record {
       grows = take_ghost i.g l;
+      texts = λ d. inl refl;
       after = record {
         K = L;
         g = i'.g;
@@ -139,6 +140,7 @@ routed_ok w i r more o h =
     let told : AllOk L i.g (Rules.to_each Rules.keys (Changed r) (r.lead ∷ r.others)) = to_each_ok L i.g Rules.keys (Changed r) (r.lead ∷ r.others) (each_all (λ m. RouteOk L r) (r.lead ∷ r.others) (λ m. new)) in
     record {
       grows = grows_refl i.g;
+      texts = λ e. inl refl;
       after = record {
         K = L;
         g = i.g;

@@ -20,5 +20,6 @@ pub mod Handover
 pub mod Going
 pub mod Resets
 pub mod Told
+pub mod Attempts
 pub mod Rows
 mod Tells

@@ -104,7 +104,7 @@ module _ (K : Keys) (g : Ghost) (n : ℕ) (st : Node) (gl : Global K g) (ok : No
       (λ x. let le : st.promised ≤ e = ltb-false e st.promised x in
       cond_both (nat_lt st.promised e) _ _ (Kept K g n)
       (λ y. let p = promises e le in
-      kept_after K g p.0 n _ _ p.2 p.3 (ap (λ (q : Ghost). q.journal) p.1) (ap (λ (q : Ghost). q.top) p.1) (ap (λ (q : Ghost). q.taken) p.1) (λ m. ap (λ (q : Ghost). q.gone m) p.1) (closing_ok K p.0 n e st.part) (still K p.0 n (record st { promised = e; part = Closed }) _ p.4 p.5 (report_of K p.0 n (record st { promised = e; part = Closed }) p.4 p.5.body e k (omega (arith, ok.body.order)) (omega (arith, p.5.body.promised)), tt) refl))
+      kept_after K g p.0 n _ _ p.2 p.3 (ap (λ (q : Ghost). q.journal) p.1) (ap (λ (q : Ghost). q.top) p.1) (ap (λ (q : Ghost). q.taken) p.1) (λ m. ap (λ (q : Ghost). q.gone m) p.1) (λ d. inl (ap (λ (q : Ghost). q.text d) p.1)) (closing_ok K p.0 n e st.part) (still K p.0 n (record st { promised = e; part = Closed }) _ p.4 p.5 (report_of K p.0 n (record st { promised = e; part = Closed }) p.4 p.5.body e k (omega (arith, ok.body.order)) (omega (arith, p.5.body.promised)), tt) refl))
       (λ y. answer _ (report_of K g n st gl ok.body e k (omega (arith, ok.body.order)) (omega (arith, ok.body.promised, ltb-false st.promised e y)), tt)))
 
   -- the spool is another image, in a new epoch
@@ -160,14 +160,14 @@ module _ (K : Keys) (g : Ghost) (n : ℕ) (st : Node) (gl : Global K g) (ok : No
       cond_both (nat_lt st.promised e) _ _ (Kept K g n)
       (λ z. let p = takes_image e image Closed le d a.0 a.1 a.2 a.4 in
       let new : Node = record { promised = e; adopted = e; spool = image.entries; head = image.head; part = Closed } in
-      kept_after K g p.0 n _ _ p.2 p.3 (ap (λ (q : Ghost). q.journal) p.1) (ap (λ (q : Ghost). q.top) p.1) (ap (λ (q : Ghost). q.taken) p.1) (λ m. ap (λ (q : Ghost). q.gone m) p.1) (closing_ok K p.0 n e st.part)
+      kept_after K g p.0 n _ _ p.2 p.3 (ap (λ (q : Ghost). q.journal) p.1) (ap (λ (q : Ghost). q.top) p.1) (ap (λ (q : Ghost). q.taken) p.1) (λ m. ap (λ (q : Ghost). q.gone m) p.1) (λ d. inl (ap (λ (q : Ghost). q.text d) p.1)) (closing_ok K p.0 n e st.part)
       (still K p.0 n new _ p.4 (record { body = p.5; part = tt }) (says_adopted p.0 e new refl p.5, tt) refl))
       (λ z. let q = ltb-false st.promised e z in
       let same : st.promised ≡ e = omega arith in
       let p = takes_image e image st.part le d a.0 a.1 a.2 a.4 in
       let new : Node = record { promised = e; adopted = e; spool = image.entries; head = image.head; part = st.part } in
       let shut : st.part ≡ Closed = leads_nothing e same d a.2.made st.part ok.part in
-      rw same (kept_after K g p.0 n [] _ p.2 p.3 (ap (λ (q : Ghost). q.journal) p.1) (ap (λ (q : Ghost). q.top) p.1) (ap (λ (q : Ghost). q.taken) p.1) (λ m. ap (λ (q : Ghost). q.gone m) p.1) tt
+      rw same (kept_after K g p.0 n [] _ p.2 p.3 (ap (λ (q : Ghost). q.journal) p.1) (ap (λ (q : Ghost). q.top) p.1) (ap (λ (q : Ghost). q.taken) p.1) (λ m. ap (λ (q : Ghost). q.gone m) p.1) (λ d. inl (ap (λ (q : Ghost). q.text d) p.1)) tt
       (still K p.0 n new _ p.4 (record { body = p.5; part = subst (λ x. PartOk K p.0 n new x) (sym shut) tt }) (says_adopted p.0 e new refl p.5, tt)
       (subst (λ x. p.0.journal ≡ grown p.0.journal new x) (sym shut) refl))))))
 
@@ -280,7 +280,7 @@ module _ (K : Keys) (g : Ghost) (n : ℕ) (st : Node) (gl : Global K g) (ok : No
         later = λ d l. end_epoch g.ends n e (offset + 1) n d (λ w. omega arith) ∙ ok.body.later d l;
       } in
       let part = not_open offset (sym at) (rw same a.0) st.part ok.part h new refl refl up (λ d. refl) in
-      kept_after K g h n [] _ up only refl refl refl (λ m. refl) tt
+      kept_after K g h n [] _ up only refl refl refl (λ m. refl) (λ d. inl refl) tt
       (raise_kept K h n new (global_moved K g g.prom g.adop ends g.text up gl.unmade gl.nothing.1 gl.puts gl.unopened gl.lawful gl) (record { body = body; part = part.0 }) head (rw same (head_up K g h up e head a.2)) _ ((omega (arith, ok.body.adopted), omega (arith, end_here g.ends n e (offset + 1))), tt)))
       (λ z. raise_kept K g n st gl ok head (rw same a.2) _ ((omega (arith, ok.body.adopted), omega (arith, rw same at ok.body.reach)), tt))))
       (λ _. answer K g n st gl ok _ (tt, tt)))

@@ -1,7 +1,7 @@
 -- Steps of history: a broker's own numbers and its epochs' lists move on (`moved`, `global_moved`), the journal grows to
 -- what a primary has (`opened_to`), and what one part of a rule keeps is put behind another (`kept_after`).
 use Rattle.gz_lineage.specs.Marks.{Mark, Lawful}
-use Rattle.std.proofs.Common.{◌≡◌, ℕ, ◌<◌, ◌≤◌, List, [], ◌++◌, length, drop, refl, ap, sym, ◌∙◌, arith, true, false, eqb, subst, inl, inr}
+use Rattle.std.proofs.Common.{◌≡◌, ℕ, ◌<◌, ◌≤◌, List, [], ◌++◌, length, drop, refl, ap, sym, ◌∙◌, arith, true, false, eqb, subst, ◌⊎◌, inl, inr}
 use Rattle.gz_lineage.specs.Prefix.{IsPrefix}
 use Rattle.gz_lineage.specs.Nodes.{Part, Node, Letter, Outcome, Closed, Opening, Adopting, Syncing, Open}
 use Rattle.gz_lineage.specs.Rules.{image_of}
@@ -147,8 +147,8 @@ opened_to g top journal = record g { top = top; journal = journal }
 
 -- a node's step after others
 pub kept_after : (K : Keys) (g h : Ghost) (n : ℕ) (ls : List Letter) (out : Outcome) → Grows g h → Only K n g h → h.journal ≡ g.journal → h.top ≡ g.top → h.taken ≡ g.taken → ((m : ℕ) → h.gone m ≡ g.gone m) →
-    AllOk K h ls → Kept K h n out → Kept K g n (Rules.after_sends ls out)
-kept_after K g h n ls out up only journal top taken gone ok k = record {
+    ((e : ℕ) → (h.text e ≡ g.text e) ⊎ (h.text e ≡ out.node.spool)) → AllOk K h ls → Kept K h n out → Kept K g n (Rules.after_sends ls out)
+kept_after K g h n ls out up only journal top taken gone texts ok k = record {
   after = k.after;
   grows = grows_trans up k.grows;
   only = only_trans only k.only;
@@ -159,6 +159,7 @@ kept_after K g h n ls out up only journal top taken gone ok k = record {
   top = rw top at k.top;
   taken = k.taken ∙ taken;
   gone = λ m. k.gone m ∙ gone m;
+  texts = λ e. elim (k.texts e) [ inl x ↦ elim (texts e) [ inl y ↦ inl (x ∙ y) | inr y ↦ inr (x ∙ y) ] | inr x ↦ inr x ];
 }
 
 pub risen_more : (t : ℕ) (p : Part) → t ≤ risen t p
@@ -170,7 +171,7 @@ risen_more t (Open r held queue) = omega arith
 
 -- no ghost moves
 pub still : (K : Keys) (g : Ghost) (n : ℕ) (st : Node) (ls : List Letter) → Global K g → NodeOk K g n st → AllOk K g ls → g.journal ≡ grown g.journal st st.part → Kept K g n (record { node = st; sends = ls })
-still K g n st ls gl ok sends journal = record { after = g; grows = grows_refl g; only = only_refl K n g; global = gl; node = ok; sends = sends; journal = journal; top = risen_more g.top st.part; taken = refl; gone = λ m. refl }
+still K g n st ls gl ok sends journal = record { after = g; grows = grows_refl g; only = only_refl K n g; global = gl; node = ok; sends = sends; journal = journal; top = risen_more g.top st.part; taken = refl; gone = λ m. refl; texts = λ e. inl refl }
 
 pub grown_short : (xs ys : List Mark) → IsPrefix ys xs → xs ++ drop (length xs) ys ≡ xs
 grown_short xs ys p = ap (λ l. xs ++ l) (drop_of_length-le ys (pre_len p)) ∙ append-nil xs

@@ -73,6 +73,7 @@ step_node_ok w i flight l f a runs less =
     let journal : k.after.journal ≡ grown_all w.journal (slice_set w.state.nodes l.to out.node) = step_journal w i l out k less in
     record {
       grows = grows_trans (take_ghost i.g l) k.grows;
+      texts = λ e. elim (k.texts e) [ inl x ↦ inl x | inr x ↦ inr (l.to, x ∙ ap (λ (s : Node). s.spool) (sym (get_or-set_same w.state.nodes l.to out.node fresh less))) ];
       after = record {
         K = i.K;
         g = k.after;

@@ -6,7 +6,7 @@ use Rattle.gz_lineage.proofs.Landing.{lawful_nil, lawful_prefix, lawful_push}
 use Rattle.std.proofs.Common.{drop_of_length-le, ◌≡◌, ℕ, ◌+◌, ◌<◌, ◌≤◌, List, [], ◌∷◌, ◌++◌, length, take, refl, ap, sym, ◌∙◌, arith, true, false, Option, subst, ◌⊎◌, inl, inr}
 use Rattle.gz_lineage.specs.Prefix.{IsPrefix}
 use Rattle.gz_lineage.specs.Lists.{In, Each, names as names_of}
-use Rattle.gz_lineage.specs.Nodes.{Route, Image, Report, Part, Node, Adopting, Syncing, Adopt}
+use Rattle.gz_lineage.specs.Nodes.{Route, Image, Report, Part, Node, Outcome, Adopting, Syncing, Adopt}
 use Rattle.gz_lineage.specs.Rules.{image_of}
 use Rattle.gz_lineage.proofs.Prefixes.{pre_refl, pre_len, pre_push, pre_take, pre_trans, pre_both, pre_same, pre_nil, len_take_le, len_take}
 use Rattle.gz_lineage.specs.Rules
@@ -21,6 +21,10 @@ use Rattle.gz_lineage.proofs.Moves.{upd_here, upd_other, upd_each, upd_more, set
 use Rattle.gz_lineage.proofs.Moves.{upd}
 use Rattle.gz_lineage.proofs.Members.{to_each_ok}
 use Rattle.gz_lineage.proofs.Primary.{less_reach}
+
+-- the spool stays while the others adopt
+pub adopting_spool : (n : ℕ) (st : Node) (r : Route) (reached : List (ℕ × Option ℕ)) → (Rules.adopting n st r reached).node.spool ≡ st.spool
+adopting_spool n st r reached = cond_both (Lists.full reached) _ _ (λ (o : Outcome). o.node.spool ≡ st.spool) (λ _. refl) (λ _. refl)
 
 -- members have adopted, before it opens
 module _ (K : Keys) (g : Ghost) (n : ℕ) (st : Node) (gl : Global K g) (b : BodyOk K g n st) where
@@ -391,7 +395,7 @@ module _ (K : Keys) (g : Ghost) (n : ℕ) (st : Node) (gl : Global K g) (b : Bod
   pub adopts_kept : Kept K g n (Rules.adopts n st r image)
   adopts_kept =
       let base : h.base r.epoch ≡ length image.entries = upd_here g.base r.epoch (length image.entries) in
-      kept_after K g h n _ _ up only refl refl refl (λ m. refl)
+      kept_after K g h n _ _ up only refl refl refl (λ m. refl) texts
       (to_each_ok K h n (Adopt r.epoch image) r.others (adopt_each r.others (λ m i. inr (rw route.others i))))
       (adopting_kept K h n (new st.part) global (new_body st.part) r (Lists.slots_for r.others) (record {
         route = route;
@@ -405,6 +409,12 @@ module _ (K : Keys) (g : Ghost) (n : ℕ) (st : Node) (gl : Global K g) (b : Bod
         all = names_slots ℕ r.others;
       }))
     where
+      texts : (d : ℕ) → (h.text d ≡ g.text d) ⊎ (h.text d ≡ (Rules.adopting n (new st.part) r (Lists.slots_for r.others)).node.spool)
+      texts d = elim (cases_eq d r.epoch) [
+        | inl x ↦ inr (ap h.text x ∙ upd_here g.text r.epoch image.entries ∙ sym (adopting_spool n (new st.part) r (Lists.slots_for r.others)))
+        | inr x ↦ inl (upd_other g.text r.epoch image.entries d x)
+      ]
+
       adopt_each : (ms : List ℕ) → ((m : ℕ) → In m ms → IsMember K r.epoch m) → Each (λ m. MessageOk K h n m (Adopt r.epoch image)) ms
       adopt_each [] f = tt
       adopt_each (m ∷ ms) f = ((route.known, f m (inl refl), new_copy, sym (upd_here g.base r.epoch (length image.entries)), new_image), adopt_each ms (λ k i. f k (inr i)))

@@ -7,7 +7,7 @@ use Rattle.gz_lineage.proofs.Landing.{lawful_push, lands_full}
 use Rattle.std.proofs.Common.{◌≡◌, ℕ, ◌+◌, ◌<◌, ◌≤◌, max, List, [], ◌∷◌, ◌++◌, length, take, drop, refl, ap, sym, ◌∙◌, arith, true, false, eqb, inl, inr, subst, Option, Some, None}
 use Rattle.gz_lineage.specs.Prefix.{IsPrefix}
 use Rattle.gz_lineage.specs.Lists.{In, Each, names as names_of, all_at}
-use Rattle.gz_lineage.specs.Nodes.{Route, Part, Node, Message, Letter, Closed, Opening, Adopting, Syncing, Open, Adopted, Replicate, Held, Head, Done}
+use Rattle.gz_lineage.specs.Nodes.{Route, Part, Node, Message, Letter, Outcome, Closed, Opening, Adopting, Syncing, Open, Adopted, Replicate, Held, Head, Done}
 use Rattle.gz_lineage.specs.Rules.{image_of}
 use Rattle.gz_lineage.specs.Safety.{IsVouched}
 use Rattle.gz_lineage.proofs.Prefixes.{pre_refl, pre_push, pre_take, pre_trans, pre_both, pre_take_of, pre_nil, len_take_le, len_take, pre_shorter}
@@ -16,13 +16,17 @@ use Rattle.gz_lineage.specs.Safety
 use Rattle.gz_lineage.proofs.Listed.{each_map, each_in, each_append, names_all}
 use Rattle.gz_lineage.proofs.Facts.{RouteOk, HeadOk, ReachOk, AllHeld, CappedDead, IsTop, Plain, Global, IsOpen, PartOk, BodyOk, NodeOk, MessageOk, LetterOk, AllOk, Kept}
 use Rattle.gz_lineage.proofs.History.{Keys, Ghost, IsMember, Grows, Only}
-use Rattle.std.proofs.lemmas.Bool.{ltb-true, leb-true, eqb-true, cond_both, true≢false, cases_lt, cases_order}
+use Rattle.std.proofs.lemmas.Bool.{ltb-true, leb-true, eqb-true, cond_both, true≢false, cases_lt, cases_order, cases_eq}
 use Rattle.std.specs.Prelude.{nat_lt, nat_le}
 use Rattle.std.proofs.lemmas.List.{drop-append-le, length_push, get_or_push, take_all}
 use Rattle.gz_lineage.proofs.Frame.{copy_up, reach_up, adopted_up}
 use Rattle.gz_lineage.proofs.Moves.{upd_here, upd_other, upd_each, set_end, end_here, end_node, end_epoch, end_more, end_frozen, moved, grows_moved, only_moved, le_same, global_moved, opened_to, kept_after, still, grown_short, grown_long}
 use Rattle.gz_lineage.proofs.Moves.{upd}
 use Rattle.gz_lineage.proofs.Members.{to_each_ok, each_all}
+
+-- the spool stays where the head rises
+pub with_head_spool : (n : ℕ) (st : Node) (r : Route) (held : List (ℕ × ℕ)) (queue : List ℕ) (h : ℕ) → (Rules.with_head n st r held queue h).node.spool ≡ st.spool
+with_head_spool n st r held queue h = cond_both (nat_lt st.head h) _ _ (λ (o : Outcome). o.node.spool ≡ st.spool) (λ _. refl) (λ _. refl)
 
 -- what a least end is at most
 pub least_own : (k : ℕ) (ps : List (ℕ × ℕ)) → Rules.least k ps ≤ k
@@ -217,7 +221,7 @@ module _ (K : Keys) (g : Ghost) (n : ℕ) (st : Node) (b : BodyOk K g n st) (h :
 
   opens_kept : (held : List (ℕ × ℕ)) (queue : List ℕ) (ls : List Letter) → AllHeld g r.epoch held → names_of held ≡ r.others → AllOk K (opened_to g x.t x.j) ls → Global K g →
       Kept K g n (record { node = record st { head = h; part = Open r held queue }; sends = ls })
-  opens_kept held queue ls told all ok gl = record { after = opened_to g x.t x.j; grows = x.grows; only = x.only; global = x.global; node = open_node held queue told all; sends = ok; journal = x.journal; top = x.least; taken = refl; gone = λ m. refl }
+  opens_kept held queue ls told all ok gl = record { after = opened_to g x.t x.j; grows = x.grows; only = x.only; global = x.global; node = open_node held queue told all; sends = ok; journal = x.journal; top = x.least; taken = refl; gone = λ m. refl; texts = λ e. inl refl }
 
 module _ (K : Keys) (g : Ghost) (n : ℕ) (st : Node) (gl : Global K g) (b : BodyOk K g n st) (runs : g.gone n ≡ false) where
   module _ (r : Route) (held : List (ℕ × ℕ)) (queue : List ℕ) (a : IsOpen K g n st r held) (h : ℕ) (low : h ≤ Rules.least (length st.spool) held) where
@@ -419,6 +423,10 @@ module _ (K : Keys) (g : Ghost) (n : ℕ) (st : Node) (gl : Global K g) (b : Bod
       } in
       let in_text : length st.spool < length (text e) = rw (here, kk) (omega arith) in
       kept_after K g h n _ _ up only refl refl refl (λ m. refl)
+      (λ d. elim (cases_eq d e) [
+        | inl z ↦ inr (ap text z ∙ here ∙ sym (with_head_spool n new r held (queue ++ (length st.spool + 1) ∷ []) (Rules.least k held)))
+        | inr z ↦ inl (upd_other g.text e (st.spool ++ x ∷ []) d z)
+      ])
       (to_each_ok K h n (Replicate e (length st.spool) x st.head) r.others (each_all _ r.others (λ m. (
         in_text,
         rw here (get_or_push st.spool x x (length st.spool) refl),

@@ -161,7 +161,7 @@ keeps_changed K g n st gl ok r a = cond_both ((n == r.lead) && nat_lt st.promise
       | inr y ↦ y
     ] in
     let h : Ghost = p.0 in
-    kept_after K g h n _ _ p.2 p.3 (ap (λ (q : Ghost). q.journal) p.1) (ap (λ (q : Ghost). q.top) p.1) (ap (λ (q : Ghost). q.taken) p.1) (λ m. ap (λ (q : Ghost). q.gone m) p.1)
+    kept_after K g h n _ _ p.2 p.3 (ap (λ (q : Ghost). q.journal) p.1) (ap (λ (q : Ghost). q.top) p.1) (ap (λ (q : Ghost). q.taken) p.1) (λ m. ap (λ (q : Ghost). q.gone m) p.1) (λ d. inl (ap (λ (q : Ghost). q.text d) p.1))
     (each_append (LetterOk K h) _ _ (closing_ok K h n r.epoch st.part) (a.known, to_each_ok K h n (Promise r.epoch) r.others (each_all _ r.others (λ m. a.known))))
     (still K h n (record st { promised = r.epoch; part = Opening r (Lists.slots_for r.others) None }) [] p.4
     (record {

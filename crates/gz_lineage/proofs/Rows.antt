@@ -1,14 +1,18 @@
 -- Runs, worked out by hand and computed. Brokers are 1 to 5. A first converge writes epoch 1, the next one epoch 2, and
 -- so on; `drains n` takes the oldest letter in flight, n times.
 use Rattle.std.specs.Prelude.{◌≡◌, ℕ, List, [], ◌∷◌, ◌++◌, true, zero, suc, codes, refl}
-use Rattle.std.proofs.Common.{sym}
+use Rattle.std.proofs.Common.{sym, ap, arith, inl, inr}
 use Rattle.std.proofs.lemmas.Bool.{true≢false}
+use Rattle.gz_label.specs.declared.entry.Attempt.{Attempt}
+use Rattle.gz_label.specs.declared.entry.Entry.{Entry}
 use Rattle.gz_journal.specs.declared.request.Request.{Request}
 use Rattle.gz_journal.specs.JournalList.{plain}
 use Rattle.gz_lineage.specs.Marks.{Mark, Reset, Added}
 use Rattle.gz_lineage.specs.Nodes.{Message, Letter, Done, Shut}
-use Rattle.gz_lineage.specs.World.{Event, World, Converge, Crash, Write, Deliver, Drop, Flush, run, start, node_at}
-use Rattle.gz_lineage.specs.Handover.{HandoverThroughout}
+use Rattle.gz_lineage.specs.World.{Event, World, Converge, Crash, Write, Deliver, Drop, Flush, Repeat, Renew, Give, happens, run, start, node_at}
+use Rattle.gz_lineage.specs.Handover.{HandoverThroughout, CalmThroughout}
+use Rattle.gz_lineage.specs.Attempts.{LandsEachOnce, PutsEachOnce, requests_put}
+use Rattle.gz_lineage.proofs.Handover.{calm}
 use Rattle.gz_lineage.proofs.Told.{OfSync, OfEnds, OfEach, throughout, told_throughout}
 
 -- ---- how runs are written
@@ -27,8 +31,11 @@ abbrev pub ask : ℕ → Request
 ask n = plain (record { node = codes "k"; req = n }) (n ∷ n ∷ n ∷ [])
 
 -- its entry, where there are no registers
+abbrev pub added : ℕ → Entry
+added n = record { attempt = record { node = codes "k"; req = n }; bytes = n ∷ n ∷ n ∷ []; registers = [] }
+
 abbrev pub entry : ℕ → Mark
-entry n = Added (record { attempt = record { node = codes "k"; req = n }; bytes = n ∷ n ∷ n ∷ []; registers = [] })
+entry n = Added (added n)
 
 -- what clients are told
 abbrev pub with_told : Message → List Message → List Message
@@ -158,3 +165,78 @@ late_unseen = refl
 
 pub late_told : HandoverThroughout opens_late (start 6) → ⊥
 late_told h = true≢false (sym (told_throughout opens_late (start 6) h))
+
+-- ---- attempts
+
+-- two requests have two attempts
+differ : (m n : ℕ) → (m ≡ n → ⊥) → (ask m).attempt ≡ (ask n).attempt → ⊥
+differ m n d e = d (ap (λ (a : Attempt). a.req) e)
+
+-- Two appends, one after the other.
+abbrev pub appends_two : List Event
+appends_two = appends_three ++ Write 1 (ask 8) ∷ drains 8
+
+pub two_keep : (after appends_two).journal ≡ entry 7 ∷ entry 8 ∷ []
+two_keep = refl
+
+pub two_put : requests_put appends_two (start 6) ≡ ask 7 ∷ ask 8 ∷ []
+two_put = refl
+
+pub two_once : PutsEachOnce appends_two (start 6)
+two_once = ((λ i. elim i [ inl e ↦ differ 7 8 (λ z. omega arith) e | inr j ↦ j ]), ((λ i. i), tt))
+
+-- Broker 1 puts an entry and sends it twice. Before 2 has it, 2 leads the next epoch and opens; so both are open, and each
+-- puts an entry more. The letter to 1 is lost and goes out again. All letters of the first epoch come late. No attempt is
+-- put twice: what is sent again is no entry that a primary adds again, and a request that was lost was not put.
+abbrev pub leads_on : List Event
+leads_on = Converge 0 1 (2 ∷ []) ∷ drains 11 ++ Write 1 (ask 7) ∷ Deliver 0 ∷ Give 1 0 ∷ Converge 0 2 (3 ∷ []) ∷ Deliver 2 ∷ takes 2 10
+    ++ Write 2 (ask 8) ∷ takes 2 5 ++ Write 1 (ask 9) ∷ Drop 2 ∷ Repeat 30 ∷ Deliver 2 ∷ Renew 12 24 ∷ drains 8
+
+pub on_keeps : (after leads_on).journal ≡ entry 8 ∷ []
+on_keeps = refl
+
+pub on_spools : spool_of leads_on 1 ∷ spool_of leads_on 2 ∷ [] ≡ (entry 7 ∷ entry 9 ∷ [], 0) ∷ (entry 8 ∷ [], 1) ∷ []
+on_spools = refl
+
+pub on_put : requests_put leads_on (start 6) ≡ ask 7 ∷ ask 8 ∷ ask 9 ∷ []
+on_put = refl
+
+pub on_once : PutsEachOnce leads_on (start 6)
+on_once = (
+  (λ i. elim i [ inl e ↦ differ 7 8 (λ z. omega arith) e | inr j ↦ elim j [ inl e ↦ differ 7 9 (λ z. omega arith) e | inr k ↦ k ] ]),
+  ((λ i. elim i [ inl e ↦ differ 8 9 (λ z. omega arith) e | inr j ↦ j ]), ((λ i. i), tt)),
+)
+
+pub on_handed_over : throughout OfEach leads_on (start 6) ≡ true
+on_handed_over = refl
+
+-- An append's letter comes again after it was answered, and the request lands again.
+abbrev pub appends_twice : List Event
+appends_twice = appends_three ++ Repeat 17 ∷ drains 8
+
+pub twice_keep : (after appends_twice).journal ≡ entry 7 ∷ entry 7 ∷ []
+twice_keep = refl
+
+pub twice_put : requests_put appends_twice (start 6) ≡ ask 7 ∷ ask 7 ∷ []
+twice_put = refl
+
+-- taking letters doesn't end handover
+calm_drains : (n : ℕ) (es : List Event) → ((w : World) → CalmThroughout es w) → (w : World) → CalmThroughout (drains n ++ es) w
+calm_drains zero es f w = f w
+calm_drains (suc n) es f w = (tt, calm_drains n es f (happens w (Deliver 0)))
+
+twice_calm : CalmThroughout appends_twice (start 6)
+twice_calm = (
+  tt,
+  calm_drains 17 (Write 1 (ask 7) ∷ drains 8 ++ Repeat 17 ∷ drains 8)
+      (λ v. (tt, calm_drains 8 (Repeat 17 ∷ drains 8) (λ u. (tt, calm_drains 8 [] (λ t. tt) (happens u (Repeat 17)))) (happens v (Write 1 (ask 7)))))
+      (happens (start 6) (Converge 0 1 (2 ∷ 3 ∷ []))),
+)
+
+-- the first place isn't the next one
+apart : (j k : ℕ) → k ≡ suc j → j ≡ k → ⊥
+apart j k n e = absurd (omega (arith, n, e))
+
+-- So of runs in which an attempt is put twice it isn't true that it lands at most once, though handover holds.
+pub twice_lands : ((nodes : ℕ) (events : List Event) → HandoverThroughout events (start nodes) → LandsEachOnce (run events (start nodes))) → ⊥
+twice_lands f = apart 0 1 refl (f 6 appends_twice (calm 6 appends_twice twice_calm) 0 1 (added 7) (added 7) refl refl refl)

@@ -179,3 +179,8 @@ begins size =
       synced_of = λ s j. absurd j;
       found = λ e k. absurd (false≢true k);
     }
+
+-- no epoch has a list yet
+pub begins_empty : (size e : ℕ) → (begins size).g.text e ≡ []
+unfolding begins
+begins_empty size e = refl

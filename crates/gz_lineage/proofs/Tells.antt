@@ -3,7 +3,7 @@
 use Rattle.std.specs.Prelude.{◌≡◌, List, [], ◌∷◌, ◌++◌, true, refl}
 use Rattle.gz_lineage.specs.Marks.{Reset}
 use Rattle.gz_lineage.specs.Nodes.{Done, Shut}
-use Rattle.gz_lineage.specs.World.{Event, Converge, Crash, Write, Deliver, Drop, Flush, start}
+use Rattle.gz_lineage.specs.World.{Event, Converge, Crash, Write, Deliver, Drop, Flush, Give, start}
 use Rattle.gz_lineage.proofs.Told.{OfEach, throughout}
 use Rattle.gz_lineage.proofs.Rows.{after, ask, entry, drains, takes, spool_of, told_to_clients}
 
@@ -109,3 +109,14 @@ promises_has = refl
 
 promises_handed_over : throughout OfEach promises (start 6) ≡ true
 promises_handed_over = refl
+
+-- An entry is sent twice, and 2 takes both letters before the primary stops.
+-- A member that adds it again: 2 adds it twice and leads next, so the journal has one attempt twice.
+abbrev gives : List Event
+gives = opens_two ++ Write 1 (ask 7) ∷ Deliver 0 ∷ Give 1 0 ∷ Deliver 0 ∷ Deliver 0 ∷ Drop 0 ∷ Drop 0 ∷ Crash 1 ∷ Converge 0 2 [] ∷ drains 5
+
+gives_keeps : (after gives).journal ≡ entry 7 ∷ []
+gives_keeps = refl
+
+gives_handed_over : throughout OfEach gives (start 6) ≡ true
+gives_handed_over = refl

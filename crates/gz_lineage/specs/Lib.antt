@@ -6,3 +6,4 @@ pub mod Rules
 pub mod World
 pub mod Handover
 pub mod Safety
+pub mod Attempts

@@ -1,5 +1,6 @@
 //! The journal theorem, reduced: what holds of every run.
 ghost use Rattle.std.specs.Prelude.{[], ◌++◌, ◌∷◌, List, Option, ℕ};
+ghost use Rattle.gz_lineage.specs.Attempts.{LandsEachOnce, LandsOf, PutsEachOnce, requests_put};
 ghost use Rattle.gz_lineage.specs.Handover.{CalmThroughout, HandoverThroughout, IsCalm};
 ghost use Rattle.gz_lineage.specs.Nodes.{Report};
 ghost use Rattle.gz_lineage.specs.Prefix.{IsPrefix};
@@ -32,6 +33,18 @@ pub fn journals_only_grow()
 /// registers of that place.
 pub fn entries_stand_where_they_land()
     ensures { Always HasLawfulJournal }
+{}
+
+/// Each attempt lands at most once where none is put twice: two places of the journal whose entries have the same
+/// attempt are one place. And whatever is put, each entry of the journal is what a request adds that was put, judged at
+/// the place directly before it.
+pub fn an_attempt_lands_at_most_once()
+    ensures once { (nodes : ℕ) (events : List Event) →
+        HandoverThroughout events (start nodes) → PutsEachOnce events (start nodes) →
+        LandsEachOnce (run events (start nodes)) }
+    ensures put { (nodes : ℕ) (events : List Event) →
+        HandoverThroughout events (start nodes) →
+        LandsOf (requests_put events (start nodes)) (run events (start nodes)) }
 {}
 
 /// What was acknowledged is in the journal from then on: the journal has the place of each answer, and what the

@@ -16,7 +16,7 @@
 mod laws;
 
 pub use laws::{
-    acknowledged_entries_stay, acknowledged_only_when_held_by_all, entries_stand_where_they_land,
-    handover_ends_only_at_a_crash_or_a_converge, journals_only_grow,
+    acknowledged_entries_stay, acknowledged_only_when_held_by_all, an_attempt_lands_at_most_once,
+    entries_stand_where_they_land, handover_ends_only_at_a_crash_or_a_converge, journals_only_grow,
     resets_only_after_a_whole_route_stopped, the_newest_image_is_chosen,
 };

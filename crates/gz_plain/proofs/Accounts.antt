@@ -15,10 +15,10 @@ use Rattle.gz_promise.specs.Parts.{NeverFall, last_from, part, read_of}
 use Rattle.gz_promise.specs.Promise.{Accept, AcceptAll, AreFolds, AreRead, Delivers, ExactlyOnce, HaveOffsets, Interleaves, ReadPrefixes, ReadsAll, ReadsEach, Taken, earlier, emitted_by, joined, messages_in, of_source, offset_at, offsets_at}
 use Rattle.gz_promise.proofs.BySource.{by_commit, by_source, interleaves, taken_of}
 use Rattle.gz_promise.proofs.Orders.{all_read, are_starts, from_starts}
-use Rattle.gz_plain.specs.Journals.{Journal, text_of}
+use Rattle.gz_promise.specs.Journals.{Journal, text_of}
 use Rattle.gz_plain.specs.Promise.{account_of, all_accepted, commits_from, streams_of}
 use Rattle.gz_plain.specs.Shards.{Shard, read_order, untaken}
-use Rattle.gz_plain.specs.Sources.{Source, all_committed, committed, end_of, ends_of, froms_of, last_of, order_of, parts}
+use Rattle.gz_promise.specs.Sources.{Source, all_committed, committed, end_of, ends_of, froms_of, last_of, order_of, parts}
 use Rattle.gz_plain.proofs.Takes as takes
 use Rattle.gz_plain.proofs.Takes.{AllShaped, AllTaken, ReadsColumns, column, nothing_left, reads_columns, shaped_froms}
 

@@ -3,7 +3,7 @@ use Rattle.std.proofs.Common.{◌≡◌, ℕ, suc, ◌≤◌, ◌^◌, List, [],
 use Rattle.std.proofs.lemmas.List.{append-nil}
 use Rattle.std.specs.Str.{bytes_eq}
 use Rattle.gz_frame.specs.Messages.{Message}
-use Rattle.gz_plain.specs.Journals.{Journal, is_journal, place_of, text_of}
+use Rattle.gz_promise.specs.Journals.{Journal, is_journal, place_of, text_in, text_of}
 use Rattle.gz_plain.specs.Places.{ArePlaced}
 use Rattle.gz_plain.specs.Readers.{AreRead, IsRead, text_for}
 use Rattle.gz_plain.specs.Running.{AllKept, IsKept, IsLinked, journals_of}
@@ -11,7 +11,7 @@ use Rattle.gz_plain.specs.Runs.{ArePresent, all_empty, with_journals}
 use Rattle.gz_plain.specs.Seen.{name_of, shard_of, source_of}
 use Rattle.gz_plain.specs.Shards as shards
 use Rattle.gz_plain.specs.Shards.{last_offsets}
-use Rattle.gz_plain.specs.Sources.{froms_of}
+use Rattle.gz_promise.specs.Sources.{froms_of}
 use Rattle.gz_plain.specs.declared.reader.Reader.{Reader}
 use Rattle.gz_plain.specs.declared.shard.Shard.{Shard}
 use Rattle.gz_plain.specs.declared.writer.Writer.{Writer}
@@ -32,7 +32,7 @@ text_empty name (n ∷ names) = no_text name (bytes_eq n name) (text_of name (al
 -- each text stays, since that of a journal that isn't there is empty as that of a new one
 pub text_added : (name : List ℕ) (names : List (List ℕ)) (js : List Journal) → text_of name (with_journals names js) ≡ text_of name js
 text_added name names [] = text_empty name names
-text_added name names (j ∷ js) = ap (λ (rest : List ℕ). cond (bytes_eq j.name name) j.text rest) (text_added name names js)
+text_added name names (j ∷ js) = ap (λ (rest : List ℕ). cond (bytes_eq j.name name) (text_in j) rest) (text_added name names js)
 
 pub longer_added : (names : List (List ℕ)) (js : List Journal) → Longer js (with_journals names js)
 longer_added names js name = ([], append-nil (text_of name js) ∙ sym (text_added name names js))

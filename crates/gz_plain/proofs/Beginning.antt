@@ -5,7 +5,7 @@ use Rattle.gz_frame.proofs.Whole.{no_messages}
 use Rattle.gz_frame.specs.Text.{Placed}
 use Rattle.gz_sequencer.specs.Committed.{committed_after}
 use Rattle.gz_plain.specs.Cluster.{AreSmallSources, definition_of, reader_at, source_named, writer_at}
-use Rattle.gz_plain.specs.Journals.{Journal, place_of}
+use Rattle.gz_promise.specs.Journals.{Journal, place_of}
 use Rattle.gz_plain.specs.Places.{ArePlaced}
 use Rattle.gz_plain.specs.Readers.{AreRead}
 use Rattle.gz_plain.specs.Running.{AllEndBy, AllUpto, AreTaken, IsKept, IsLinked, journals_of}
@@ -13,7 +13,7 @@ use Rattle.gz_plain.specs.Definitions.{fresh}
 use Rattle.gz_plain.specs.Runs.{ArePresent}
 use Rattle.gz_plain.specs.Seen.{name_of, shard_of, source_of}
 use Rattle.gz_plain.specs.Shards as shards
-use Rattle.gz_plain.specs.Sources.{Source, froms_of}
+use Rattle.gz_promise.specs.Sources.{Source, froms_of}
 use Rattle.gz_plain.specs.declared.cluster.Definition as declared
 use Rattle.gz_plain.specs.declared.cluster.Source as named
 use Rattle.gz_plain.specs.declared.reader.Reader.{Reader}

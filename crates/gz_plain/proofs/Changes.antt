@@ -11,12 +11,12 @@ use Rattle.gz_app.specs.declared.app.AppKind.{AppKind}
 use Rattle.gz_app.specs.declared.app.AppKind.TheVariants.{Count, Relay, Latest}
 use Rattle.gz_sequencer.specs.Committed.{messages_alone}
 use Rattle.gz_plain.specs.Definitions.{Definition, fresh, same_app, same_names, same_sources, keeps_definition, resumes_at, marks_of, with_definition, continued, redefined, definition_of, GoesOn, AllGoOn}
-use Rattle.gz_plain.specs.Journals.{Journal, text_of}
+use Rattle.gz_promise.specs.Journals.{Journal, text_of}
 use Rattle.gz_plain.specs.Promise.{IfKept}
 use Rattle.gz_plain.specs.Runs.{with_journals, changed, ArePresent, AreDefined, continues, MayHappen, changes}
 use Rattle.gz_promise.specs.Names.{Distinct}
 use Rattle.gz_plain.specs.Shards.{Shard, World}
-use Rattle.gz_plain.specs.Sources.{Source}
+use Rattle.gz_promise.specs.Sources.{Source}
 use Rattle.gz_plain.proofs.Added.{text_added, present_added}
 use Rattle.gz_plain.proofs.Writes.{Foreign, foreign_none, AllForeign, IsClean}
 use Rattle.gz_plain.proofs.Steps.{IsLawful, Kept, kept_foreign}
@@ -62,6 +62,7 @@ kept_disabled js disabled s k = record {
   batches = k.batches;
   taken = k.taken;
   upto = k.upto;
+  lines = k.lines;
   shape = k.shape;
   store = k.store;
   puts = k.puts;

@@ -4,7 +4,7 @@ use Rattle.std.proofs.lemmas.List.{map-append}
 use Rattle.std.specs.Str.{bytes_eq}
 use Rattle.gz_plain.specs.Cluster.{AreLinked, AreSmall, behind_lead, definition_of, definitions_of, lead_of}
 use Rattle.gz_plain.specs.Definitions.{Definition, continued, fresh, redefined}
-use Rattle.gz_plain.specs.Journals.{Journal}
+use Rattle.gz_promise.specs.Journals.{Journal}
 use Rattle.gz_plain.specs.Running.{AllKept, IsKept}
 use Rattle.gz_plain.specs.Seen.{shard_of, shards_of}
 use Rattle.gz_plain.specs.Shards as shards
@@ -17,48 +17,6 @@ use Rattle.gz_plain.specs.declared.shard.Shard.{Shard}
 abbrev pub IsNext : List Journal → Definition → ℕ → List Shard → ℕ → List Shard → Shard → Type 0
 IsNext js d number before next after s =
     (ds : List Definition) → shard_of s ∷ redefined js next ds (shards_of after) ≡ redefined js number (d ∷ ds) (shards_of before)
-
-lead_if : (b : Bool) (x : Shard) (l : Option Shard) → cond b (Some x) None ≡ l → (l ≡ None → b ≡ false)
-lead_if true x l is none = absurd (clash x (is ∙ none))
-  where
-    clash : (x : Shard) → Some x ≡ None → ⊥
-    clash x is = cc
-lead_if false x l is none = refl
-
--- no shard has the definition's id
-pub next_begins : (js : List Journal) (d : Definition) (number : ℕ) (before after : List Shard) (s : Shard) → None ≡ lead_of d.id before → after ≡ behind_lead d.id before
-    → shard_of s ≡ fresh number d → IsNext js d number before (number + 1) after s
-next_begins js d number [] after s none rest seen ds =
-    rw (rest, seen) refl
-next_begins js d number (x ∷ xs) after s none rest seen ds =
-    let apart : bytes_eq x.id d.id ≡ false = lead_if (bytes_eq x.id d.id) x (lead_of d.id (x ∷ xs)) refl (sym none) in
-    let all : after ≡ x ∷ xs = rest ∙ ap (λ (b : Bool). cond b xs (x ∷ xs)) apart in
-    rw (all, seen, apart) refl
-
-lead_is : (b : Bool) (x y : Shard) → Some y ≡ cond b (Some x) None → (b ≡ true) × (y ≡ x)
-lead_is true x y is = (refl, cc)
-lead_is false x y is = cc
-
--- the first shard has the definition's id
-pub next_continues : (js : List Journal) (d : Definition) (number : ℕ) (before after : List Shard) (old s : Shard) → Some old ≡ lead_of d.id before → after ≡ behind_lead d.id before
-    → shard_of s ≡ continued js d (shard_of old) → IsNext js d number before number after s
-next_continues js d number [] after old s some rest seen ds = cc
-next_continues js d number (x ∷ xs) after old s some rest seen ds =
-    let is = lead_is (bytes_eq x.id d.id) x old some in
-    let all : after ≡ xs = rest ∙ ap (λ (b : Bool). cond b xs (x ∷ xs)) is.0 in
-    rw (all, seen, is.1, is.0) refl
-
-kept_if : (b : Bool) (js : List Journal) (x : Shard) (xs : List Shard) → AllKept js (x ∷ xs) → AllKept js (cond b xs (x ∷ xs))
-kept_if true js x xs k = k.1
-kept_if false js x xs k = k
-
-pub kept_behind : (js : List Journal) (id : List ℕ) (ss after : List Shard) → after ≡ behind_lead id ss → AllKept js ss → AllKept js after
-kept_behind js id [] after rest k = subst (λ (xs : List Shard). AllKept js xs) (sym rest) k
-kept_behind js id (x ∷ xs) after rest k = subst (λ (ys : List Shard). AllKept js ys) (sym rest) (kept_if (bytes_eq x.id id) js x xs k)
-
-pub kept_lead : (js : List Journal) (id : List ℕ) (ss : List Shard) (old : Shard) → Some old ≡ lead_of id ss → AllKept js ss → IsKept js old
-kept_lead js id [] old some k = cc
-kept_lead js id (x ∷ xs) old some k = subst (λ (s : Shard). IsKept js s) (sym (lead_is (bytes_eq x.id id) x old some).1) k.0
 
 -- ---- one shard after another
 

@@ -11,8 +11,10 @@ use Rattle.gz_frame.specs.Text.{Placed, message_of, placed_at, messages_in, mess
 use Rattle.gz_frame.proofs.Whole.{messages_joined, bytes_in, bytes_of_lines}
 use Rattle.gz_sequencer.specs.Committed.{messages_alone, committed_after}
 use Rattle.gz_sequencer.specs.Committed as sequencer
-use Rattle.gz_plain.specs.Journals.{Journal, text_of, appended, AreWhole}
-use Rattle.gz_plain.specs.Sources.{Source, text_from, end_of, committed}
+use Rattle.gz_promise.specs.Journals.{Journal, text_in, text_of, with_bytes, appended, AreWhole}
+use Rattle.gz_promise.proofs.Entries.{text_with_bytes}
+use Rattle.gz_label.specs.declared.entry.Attempt.{Attempt}
+use Rattle.gz_promise.specs.Sources.{Source, text_from, end_of, committed}
 use Rattle.gz_plain.proofs.Parts.{Within, within_two}
 use Rattle.gz_plain.proofs.Parts.{within_line}
 
@@ -64,18 +66,18 @@ pub grow_whole : (js new : List Journal) → Grow js new → AreWhole js → Are
 grow_whole js new g w name = gain_whole (text_of name js) (text_of name new) (g name) (w name)
 
 -- the first journal, whether it grows or not, and whether it is the one of the name
-gain_first : (name bytes other : List ℕ) (j : Journal) (js : List Journal) (here there : Bool) → bytes_eq j.name other ≡ there → is_whole bytes ≡ true
-    → Gain (text_of other js) (text_of other (appended name bytes js))
-    → Gain (cond there j.text (text_of other js)) (text_of other (cond here (record j { text = j.text ++ bytes }) j ∷ appended name bytes js))
-gain_first name bytes other j js true true is whole rest = rw is (record { more = bytes; joined = refl; whole = whole })
-gain_first name bytes other j js false true is whole rest = rw is (gain_none j.text)
-gain_first name bytes other j js true false is whole rest = rw is rest
-gain_first name bytes other j js false false is whole rest = rw is rest
+gain_first : (attempt : Attempt) (name bytes other : List ℕ) (j : Journal) (js : List Journal) (here there : Bool) → bytes_eq j.name other ≡ there → is_whole bytes ≡ true
+    → Gain (text_of other js) (text_of other (appended attempt name bytes js))
+    → Gain (cond there (text_in j) (text_of other js)) (text_of other (cond here (record j { entries = with_bytes attempt bytes j.entries }) j ∷ appended attempt name bytes js))
+gain_first attempt name bytes other j js true true is whole rest = rw is (record { more = bytes; joined = text_with_bytes attempt bytes j.entries; whole = whole })
+gain_first attempt name bytes other j js false true is whole rest = rw is (gain_none (text_in j))
+gain_first attempt name bytes other j js true false is whole rest = rw is rest
+gain_first attempt name bytes other j js false false is whole rest = rw is rest
 
-pub grow_appended : (name bytes : List ℕ) (js : List Journal) → is_whole bytes ≡ true → Grow js (appended name bytes js)
-grow_appended name bytes [] whole other = gain_none []
-grow_appended name bytes (j ∷ js) whole other =
-    gain_first name bytes other j js (bytes_eq j.name name) (bytes_eq j.name other) refl whole (grow_appended name bytes js whole other)
+pub grow_appended : (attempt : Attempt) (name bytes : List ℕ) (js : List Journal) → is_whole bytes ≡ true → Grow js (appended attempt name bytes js)
+grow_appended attempt name bytes [] whole other = gain_none []
+grow_appended attempt name bytes (j ∷ js) whole other =
+    gain_first attempt name bytes other j js (bytes_eq j.name name) (bytes_eq j.name other) refl whole (grow_appended attempt name bytes js whole other)
 
 -- ---- the text of a source
 
@@ -87,14 +89,6 @@ whole_behind (suc n) b (y ∷ ys) w = whole_behind n y ys w
 
 pub whole_drop : (n : ℕ) (ys : List ℕ) → is_whole ys ≡ true → is_whole (drop n ys) ≡ true
 whole_drop n ys w = whole_behind n newline ys w
-
-gain_drop_two : (n : ℕ) (xs ys : List ℕ) → is_whole ys ≡ true → Gain (drop n xs) (drop n (xs ++ ys))
-gain_drop_two zero xs ys w = record { more = ys; joined = refl; whole = w }
-gain_drop_two (suc n) [] ys w = record { more = drop (suc n) ys; joined = refl; whole = whole_drop (suc n) ys w }
-gain_drop_two (suc n) (x ∷ xs) ys w = gain_drop_two n xs ys w
-
-pub gain_drop : (n : ℕ) (old new : List ℕ) → Gain old new → Gain (drop n old) (drop n new)
-gain_drop n old new g = subst (λ (t : List ℕ). Gain (drop n old) (drop n t)) (sym g.joined) (gain_drop_two n old g.more g.whole)
 
 -- ---- what a text has committed
 
@@ -162,17 +156,3 @@ later_of at old new more joined whole =
     ap (λ (t : List ℕ). sequencer.committed at t) joined
     ∙ ap (λ (ps : List Placed). committed_after [] ps) (messages_joined at old more whole)
     ∙ committed_two [] (messages_of at old) (messages_of (at + length old) more)
-
-pub later : (js new : List Journal) (s : Source) → AreWhole js → Grow js new → Later js new s
-later js new s whole grow =
-    let g : Gain (text_from js s) (text_from new s) = gain_drop s.from (text_of s.journal js) (text_of s.journal new) (grow s.journal) in
-    let old : List ℕ = text_from js s in
-    let high : end_of js s + length g.more ≡ end_of new s =
-    omega (arith, ap (λ (t : List ℕ). length t) g.joined ∙ length-append old g.more) in
-    record {
-      more = committed_after (messages_alone (messages_of s.from old)) (messages_of (end_of js s) g.more);
-      joined = later_of s.from old (text_from new s) g.more g.joined (whole_drop s.from (text_of s.journal js) (whole s.journal));
-      behind = subst (λ (n : ℕ). Within (end_of js s) n (committed_after (messages_alone (messages_of s.from old)) (messages_of (end_of js s) g.more))) high
-          (committed_inside (end_of js s) (end_of js s + length g.more) (messages_alone (messages_of s.from old)) (messages_of (end_of js s) g.more) (text_inside (end_of js s) g.more));
-      further = omega (arith, high);
-    }

@@ -11,8 +11,8 @@ use Rattle.gz_uuid.specs.Identifier.{is_identifier, producer_of, clock_of, flags
 use Rattle.gz_json.specs.Json.{json_of}
 use Rattle.gz_promise.specs.Parts.{part, is_between}
 use Rattle.gz_sequencer.specs.Committed.{messages_alone, released_in}
-use Rattle.gz_plain.specs.Journals.{Journal}
-use Rattle.gz_plain.specs.Sources.{Source, all_committed, parts, committed, text_from}
+use Rattle.gz_promise.specs.Journals.{Journal}
+use Rattle.gz_promise.specs.Sources.{Source, all_committed, parts, committed, text_from}
 use Rattle.gz_sequencer.proofs.Produced.{Each, each_two, each_behind, messages_behind}
 
 abbrev pub IsMessage : Message → Type 0

@@ -4,6 +4,7 @@ pub mod Places
 pub mod Growth
 pub mod Longer
 pub mod Takes
+pub mod LineEnds
 pub mod Accounts
 pub mod Pieces
 pub mod Reading
@@ -19,6 +20,7 @@ pub mod Settles
 pub mod Changes
 pub mod Promises
 pub mod Stepping
+pub mod Landing
 pub mod Settling
 pub mod Beginning
 pub mod Added

@@ -10,9 +10,11 @@ use Rattle.gz_frame.specs.Text.{Placed, message_of, placed_at, messages_of, is_w
 use Rattle.gz_frame.proofs.Whole.{Split, split_of, messages_joined, messages_of_first, no_messages, within_text}
 use Rattle.gz_sequencer.specs.Committed.{messages_alone, committed_after}
 use Rattle.gz_sequencer.specs.Committed as sequencer
-use Rattle.gz_plain.specs.Journals.{Journal, text_of, appended, grown}
+use Rattle.gz_promise.specs.Journals.{Journal, text_in, text_of, with_bytes, appended}
+use Rattle.gz_promise.proofs.Entries.{text_with_bytes}
+use Rattle.gz_label.specs.declared.entry.Attempt.{Attempt}
 use Rattle.gz_plain.specs.Shards.{written_to, closed, lines_to, text_of_lines}
-use Rattle.gz_plain.specs.Sources.{Source, text_from, end_of, committed}
+use Rattle.gz_promise.specs.Sources.{Source, text_from, end_of, committed}
 use Rattle.gz_plain.proofs.Growth.{Inside, inside_wider, text_inside, committed_inside, later_of, Later, Gain, Grow}
 use Rattle.gz_plain.proofs.Parts.{Within}
 
@@ -40,24 +42,24 @@ longer_none js name = prefix_none (text_of name js)
 pub longer_two : (a b c : List Journal) → Longer a b → Longer b c → Longer a c
 longer_two a b c f g name = prefix_two (text_of name a) (text_of name b) (text_of name c) (f name) (g name)
 
-longer_first : (bytes rest new : List ℕ) (j : Journal) (here there : Bool) (other : List ℕ) → bytes_eq j.name other ≡ there → IsPrefix rest new
-    → IsPrefix (cond there j.text rest) (cond (bytes_eq (cond here (record j { text = j.text ++ bytes }) j).name other) (cond here (record j { text = j.text ++ bytes }) j).text new)
-longer_first bytes rest new j true true other is more = rw is (bytes, refl)
-longer_first bytes rest new j false true other is more = rw is (prefix_none j.text)
-longer_first bytes rest new j true false other is more = rw is more
-longer_first bytes rest new j false false other is more = rw is more
+longer_first : (attempt : Attempt) (bytes rest new : List ℕ) (j : Journal) (here there : Bool) (other : List ℕ) → bytes_eq j.name other ≡ there → IsPrefix rest new
+    → IsPrefix (cond there (text_in j) rest) (cond (bytes_eq (cond here (record j { entries = with_bytes attempt bytes j.entries }) j).name other) (text_in (cond here (record j { entries = with_bytes attempt bytes j.entries }) j)) new)
+longer_first attempt bytes rest new j true true other is more = rw is (bytes, sym (text_with_bytes attempt bytes j.entries))
+longer_first attempt bytes rest new j false true other is more = rw is (prefix_none (text_in j))
+longer_first attempt bytes rest new j true false other is more = rw is more
+longer_first attempt bytes rest new j false false other is more = rw is more
 
-pub longer_appended : (name bytes : List ℕ) (js : List Journal) → Longer js (appended name bytes js)
-longer_appended name bytes [] other = prefix_none []
-longer_appended name bytes (j ∷ js) other =
-    longer_first bytes (text_of other js) (text_of other (appended name bytes js)) j (bytes_eq j.name name) (bytes_eq j.name other) other refl (longer_appended name bytes js other)
+pub longer_appended : (attempt : Attempt) (name bytes : List ℕ) (js : List Journal) → Longer js (appended attempt name bytes js)
+longer_appended attempt name bytes [] other = prefix_none []
+longer_appended attempt name bytes (j ∷ js) other =
+    longer_first attempt bytes (text_of other js) (text_of other (appended attempt name bytes js)) j (bytes_eq j.name name) (bytes_eq j.name other) other refl (longer_appended attempt name bytes js other)
 
-pub longer_written : (count place : ℕ) (lines : List Message) (ack : Message) (names : List (List ℕ)) (js : List Journal) → Longer js (written_to count place lines ack names js)
-longer_written count place lines ack [] js = longer_none js
-longer_written count place lines ack (name ∷ names) js =
+pub longer_written : (attempt : Attempt) (count place : ℕ) (lines : List Message) (ack : Message) (names : List (List ℕ)) (js : List Journal) → Longer js (written_to attempt count place lines ack names js)
+longer_written attempt count place lines ack [] js = longer_none js
+longer_written attempt count place lines ack (name ∷ names) js =
     let bytes : List ℕ = text_of_lines (closed ack (lines_to count place lines)) in
-    longer_two js (appended name bytes js) (written_to count (place + 1) lines ack names (appended name bytes js))
-    (longer_appended name bytes js) (longer_written count (place + 1) lines ack names (appended name bytes js))
+    longer_two js (appended attempt name bytes js) (written_to attempt count (place + 1) lines ack names (appended attempt name bytes js))
+    (longer_appended attempt name bytes js) (longer_written attempt count (place + 1) lines ack names (appended attempt name bytes js))
 
 pub grow_longer : (js new : List Journal) → Grow js new → Longer js new
 grow_longer js new grow name =

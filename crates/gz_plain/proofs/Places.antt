@@ -7,9 +7,10 @@ use Rattle.std.proofs.lemmas.List.Concat.{flat_map-append}
 use Rattle.std.proofs.lemmas.Slice.Eq.{bytes_eq-Decides}
 use Rattle.std.specs.Str.{bytes_eq}
 use Rattle.gz_frame.specs.Line.{data_of, line_of}
+use Rattle.gz_label.specs.declared.entry.Attempt.{Attempt}
 use Rattle.gz_frame.specs.Messages.{Message, continue_txn}
 use Rattle.gz_app.specs.Applications.{Output}
-use Rattle.gz_plain.specs.Journals.{Journal, is_journal, text_of, appended, place_of, text_at, appended_at}
+use Rattle.gz_promise.specs.Journals.{Journal, is_journal, text_in, text_of, with_bytes, appended, place_of, text_at, appended_at}
 use Rattle.gz_promise.specs.Names.{Apart}
 use Rattle.gz_plain.specs.Places.{names_of, places_of, ArePlaced, with_lines, ended, all_appended}
 use Rattle.gz_plain.specs.Plain.{lines_from}
@@ -30,7 +31,7 @@ line_some m = omega (arith, length-append (compact_text (data_of m)) (newline �
 -- ---- a place
 
 text_first : (name : List ℕ) (j : Journal) (js : List Journal) (here : Bool) → text_of name js ≡ text_at (place_of name js) js
-    → cond here j.text (text_of name js) ≡ text_at (cond here 0 (suc (place_of name js))) (j ∷ js)
+    → cond here (text_in j) (text_of name js) ≡ text_at (cond here 0 (suc (place_of name js))) (j ∷ js)
 text_first name j js true rest = refl
 text_first name j js false rest = rest
 
@@ -40,9 +41,9 @@ text_of_is name [] = refl
 text_of_is name (j ∷ js) = text_first name j js (bytes_eq j.name name) (text_of_is name js)
 
 -- the text at a place of the list
-pub text_at_read : (i : ℕ) (js : List Journal) (j : Journal) → i < length js → j ≡ get_or js i j → j.text ≡ text_at i js
+pub text_at_read : (i : ℕ) (js : List Journal) (j : Journal) → i < length js → j ≡ get_or js i j → (text_in j) ≡ text_at i js
 text_at_read i [] j within is = absurd (omega (arith, within))
-text_at_read zero (k ∷ js) j within is = ap (λ (o : Journal). o.text) is
+text_at_read zero (k ∷ js) j within is = ap (λ (o : Journal). text_in o) is
 text_at_read (suc i) (k ∷ js) j within is = text_at_read i js j (omega (arith, within)) is
 
 -- there is no text past the end
@@ -52,57 +53,47 @@ text_at_past zero (k ∷ js) past = absurd (omega (arith, past))
 text_at_past (suc i) (k ∷ js) past = text_at_past i js (omega (arith, past))
 
 -- an append at a place of the list sets what stands there
-pub appended_at_set : (i : ℕ) (bytes : List ℕ) (js : List Journal) (j : Journal) → i < length js → j ≡ get_or js i j
-    → set js i (record j { text = j.text ++ bytes }) ≡ appended_at i bytes js
-appended_at_set i bytes [] j within is = absurd (omega (arith, within))
-appended_at_set zero bytes (k ∷ js) j within is = ap (λ (o : Journal). record o { text = o.text ++ bytes } ∷ js) is
-appended_at_set (suc i) bytes (k ∷ js) j within is = ap (λ (rest : List Journal). k ∷ rest) (appended_at_set i bytes js j (omega (arith, within)) is)
+pub appended_at_set : (attempt : Attempt) (i : ℕ) (bytes : List ℕ) (js : List Journal) (j : Journal) → i < length js → j ≡ get_or js i j
+    → set js i (record j { entries = with_bytes attempt bytes j.entries }) ≡ appended_at attempt i bytes js
+appended_at_set attempt i bytes [] j within is = absurd (omega (arith, within))
+appended_at_set attempt zero bytes (k ∷ js) j within is = ap (λ (o : Journal). record o { entries = with_bytes attempt bytes o.entries } ∷ js) is
+appended_at_set attempt (suc i) bytes (k ∷ js) j within is = ap (λ (rest : List Journal). k ∷ rest) (appended_at_set attempt i bytes js j (omega (arith, within)) is)
 
 -- an append past the end does nothing
-pub appended_at_past : (i : ℕ) (bytes : List ℕ) (js : List Journal) → length js ≤ i → appended_at i bytes js ≡ js
-appended_at_past i bytes [] past = refl
-appended_at_past zero bytes (k ∷ js) past = absurd (omega (arith, past))
-appended_at_past (suc i) bytes (k ∷ js) past = ap (λ (rest : List Journal). k ∷ rest) (appended_at_past i bytes js (omega (arith, past)))
+pub appended_at_past : (attempt : Attempt) (i : ℕ) (bytes : List ℕ) (js : List Journal) → length js ≤ i → appended_at attempt i bytes js ≡ js
+appended_at_past attempt i bytes [] past = refl
+appended_at_past attempt zero bytes (k ∷ js) past = absurd (omega (arith, past))
+appended_at_past attempt (suc i) bytes (k ∷ js) past = ap (λ (rest : List Journal). k ∷ rest) (appended_at_past attempt i bytes js (omega (arith, past)))
 
 -- ---- an append to the journal of a name
 
 -- a name that no journal has
-pub none_appended : (name bytes : List ℕ) (js : List Journal) → Apart name (names_of js) → appended name bytes js ≡ js
-none_appended name bytes [] a = refl
-none_appended name bytes (j ∷ js) a = rw (a.1, none_appended name bytes js a.2) refl
+pub none_appended : (attempt : Attempt) (name bytes : List ℕ) (js : List Journal) → Apart name (names_of js) → appended attempt name bytes js ≡ js
+none_appended attempt name bytes [] a = refl
+none_appended attempt name bytes (j ∷ js) a = rw (a.1, none_appended attempt name bytes js a.2) refl
 
-appended_first : (name bytes : List ℕ) (j : Journal) (js : List Journal) (here : Bool) → bytes_eq j.name name ≡ here → Apart j.name (names_of js)
-    → appended name bytes js ≡ appended_at (place_of name js) bytes js
-    → cond here (record j { text = j.text ++ bytes }) j ∷ appended name bytes js ≡ appended_at (cond here 0 (suc (place_of name js))) bytes (j ∷ js)
-appended_first name bytes j js true is a rest =
+appended_first : (attempt : Attempt) (name bytes : List ℕ) (j : Journal) (js : List Journal) (here : Bool) → bytes_eq j.name name ≡ here → Apart j.name (names_of js)
+    → appended attempt name bytes js ≡ appended_at attempt (place_of name js) bytes js
+    → cond here (record j { entries = with_bytes attempt bytes j.entries }) j ∷ appended attempt name bytes js ≡ appended_at attempt (cond here 0 (suc (place_of name js))) bytes (j ∷ js)
+appended_first attempt name bytes j js true is a rest =
     let same : j.name ≡ name = (bytes_eq-Decides j.name name).0 is in
-    ap (λ (back : List Journal). record j { text = j.text ++ bytes } ∷ back)
-    (ap (λ (n : List ℕ). appended n bytes js) (sym same) ∙ none_appended j.name bytes js a)
-appended_first name bytes j js false is a rest = ap (λ (back : List Journal). j ∷ back) rest
+    ap (λ (back : List Journal). record j { entries = with_bytes attempt bytes j.entries } ∷ back)
+    (ap (λ (n : List ℕ). appended attempt n bytes js) (sym same) ∙ none_appended attempt j.name bytes js a)
+appended_first attempt name bytes j js false is a rest = ap (λ (back : List Journal). j ∷ back) rest
 
 -- where each name is there once, the journal of the name is the one at its place
-pub appended_is : (name bytes : List ℕ) (js : List Journal) → Distinct (names_of js) → appended name bytes js ≡ appended_at (place_of name js) bytes js
-appended_is name bytes [] d = refl
-appended_is name bytes (j ∷ js) d = appended_first name bytes j js (bytes_eq j.name name) refl d.0 (appended_is name bytes js d.1)
+pub appended_is : (attempt : Attempt) (name bytes : List ℕ) (js : List Journal) → Distinct (names_of js) → appended attempt name bytes js ≡ appended_at attempt (place_of name js) bytes js
+appended_is attempt name bytes [] d = refl
+appended_is attempt name bytes (j ∷ js) d = appended_first attempt name bytes j js (bytes_eq j.name name) refl d.0 (appended_is attempt name bytes js d.1)
 
-name_first : (bytes : List ℕ) (j : Journal) (here : Bool) → (cond here (record j { text = j.text ++ bytes }) j).name ≡ j.name
-name_first bytes j true = refl
-name_first bytes j false = refl
+name_first : (attempt : Attempt) (bytes : List ℕ) (j : Journal) (here : Bool) → (cond here (record j { entries = with_bytes attempt bytes j.entries }) j).name ≡ j.name
+name_first attempt bytes j true = refl
+name_first attempt bytes j false = refl
 
 -- the names stay
-pub names_stay : (name bytes : List ℕ) (js : List Journal) → names_of (appended name bytes js) ≡ names_of js
-names_stay name bytes [] = refl
-names_stay name bytes (j ∷ js) = rw (name_first bytes j (bytes_eq j.name name), names_stay name bytes js) refl
-
--- an append at a place keeps the names too
-pub names_stay_at : (i : ℕ) (bytes : List ℕ) (js : List Journal) → names_of (appended_at i bytes js) ≡ names_of js
-names_stay_at i bytes [] = refl
-names_stay_at zero bytes (j ∷ js) = refl
-names_stay_at (suc i) bytes (j ∷ js) = ap (λ (names : List (List ℕ)). j.name ∷ names) (names_stay_at i bytes js)
-
--- so each is still named once
-pub distinct_stay_at : (i : ℕ) (bytes : List ℕ) (js : List Journal) → Distinct (names_of js) → Distinct (names_of (appended_at i bytes js))
-distinct_stay_at i bytes js d = rw (names_stay_at i bytes js) d
+pub names_stay : (attempt : Attempt) (name bytes : List ℕ) (js : List Journal) → names_of (appended attempt name bytes js) ≡ names_of js
+names_stay attempt name bytes [] = refl
+names_stay attempt name bytes (j ∷ js) = rw (name_first attempt bytes j (bytes_eq j.name name), names_stay attempt name bytes js) refl
 
 -- journals that begin have the names that they were given
 pub names_empty : (names : List (List ℕ)) → names_of (all_empty names) ≡ names
@@ -110,9 +101,9 @@ names_empty [] = refl
 names_empty (n ∷ names) = ap (λ (rest : List (List ℕ)). n ∷ rest) (names_empty names)
 
 -- the places stay
-pub place_stays : (name bytes other : List ℕ) (js : List Journal) → place_of other (appended name bytes js) ≡ place_of other js
-place_stays name bytes other [] = refl
-place_stays name bytes other (j ∷ js) = rw (name_first bytes j (bytes_eq j.name name), place_stays name bytes other js) refl
+pub place_stays : (attempt : Attempt) (name bytes other : List ℕ) (js : List Journal) → place_of other (appended attempt name bytes js) ≡ place_of other js
+place_stays attempt name bytes other [] = refl
+place_stays attempt name bytes other (j ∷ js) = rw (name_first attempt bytes j (bytes_eq j.name name), place_stays attempt name bytes other js) refl
 
 -- a journal is one whose name is among the names
 abbrev is_among : List ℕ → List (List ℕ) → Bool
@@ -133,13 +124,13 @@ present_stays [] js new same present = tt
 present_stays (n ∷ names) js new same present = (same n ∙ present.0, present_stays names js new same present.1)
 
 -- each is still named once
-pub distinct_stay : (name bytes : List ℕ) (js : List Journal) → Distinct (names_of js) → Distinct (names_of (appended name bytes js))
-distinct_stay name bytes js d = rw (names_stay name bytes js) d
+pub distinct_stay : (attempt : Attempt) (name bytes : List ℕ) (js : List Journal) → Distinct (names_of js) → Distinct (names_of (appended attempt name bytes js))
+distinct_stay attempt name bytes js d = rw (names_stay attempt name bytes js) d
 
 -- writers stay at the places of their journals
-pub placed_stay : (name bytes : List ℕ) (js : List Journal) (ws : List Writer) → ArePlaced js ws → ArePlaced (appended name bytes js) ws
-placed_stay name bytes js [] p = tt
-placed_stay name bytes js (w ∷ ws) p = (p.0 ∙ sym (place_stays name bytes w.journal js), placed_stay name bytes js ws p.1)
+pub placed_stay : (attempt : Attempt) (name bytes : List ℕ) (js : List Journal) (ws : List Writer) → ArePlaced js ws → ArePlaced (appended attempt name bytes js) ws
+placed_stay attempt name bytes js [] p = tt
+placed_stay attempt name bytes js (w ∷ ws) p = (p.0 ∙ sym (place_stays attempt name bytes w.journal js), placed_stay attempt name bytes js ws p.1)
 
 -- ---- lines for each output
 
@@ -176,17 +167,17 @@ is_here count place m t true is same = ap (λ (bytes : List ℕ). t ++ bytes) (a
 is_here count place m t false is same = absurd (eqb-false (choice count m.key) place is same)
 
 -- a line that chooses an output before these
-behind : (count place : ℕ) (m : Message) (texts : List (List ℕ)) → choice count m.key < place → with_lines count place (m ∷ []) texts ≡ texts
-behind count place m [] before = refl
-behind count place m (t ∷ texts) before =
-    rw (not_here count place m t (choice count m.key == place) refl (λ same. omega (arith, same, before)), behind count (place + 1) m texts (omega (arith, before))) refl
+not_chosen : (count place : ℕ) (m : Message) (texts : List (List ℕ)) → choice count m.key < place → with_lines count place (m ∷ []) texts ≡ texts
+not_chosen count place m [] before = refl
+not_chosen count place m (t ∷ texts) before =
+    rw (not_here count place m t (choice count m.key == place) refl (λ same. omega (arith, same, before)), not_chosen count (place + 1) m texts (omega (arith, before))) refl
 
 -- a line goes behind the text that it chooses
 pub with_line_set : (count place i : ℕ) (m : Message) (texts : List (List ℕ)) (t : List ℕ) → choice count m.key ≡ place + i → i < length texts → t ≡ get_or texts i t
     → set texts i (t ++ line_of m) ≡ with_lines count place (m ∷ []) texts
 with_line_set count place i m [] t is within read = absurd (omega (arith, within))
 with_line_set count place zero m (o ∷ texts) t is within read =
-    rw (read, is_here count place m o (choice count m.key == place) refl (omega (arith, is)), behind count (place + 1) m texts (omega (arith, is))) refl
+    rw (read, is_here count place m o (choice count m.key == place) refl (omega (arith, is)), not_chosen count (place + 1) m texts (omega (arith, is))) refl
 with_line_set count place (suc i) m (o ∷ texts) t is within read =
     rw (not_here count place m o (choice count m.key == place) refl (λ same. omega (arith, same, is)))
     (ap (λ (rest : List (List ℕ)). o ∷ rest) (with_line_set count (place + 1) i m texts t (omega (arith, is)) (omega (arith, within)) read))
@@ -238,37 +229,30 @@ length_texts count place n lines line =
     length-map (with_lines count place lines (replicate n [])) (ended line) ∙ length_with_lines count place lines (replicate n []) ∙ length-replicate n []
 
 -- the texts of a commit, behind the journals at the writers' places
-pub written_places : (count place : ℕ) (lines : List Message) (ack : Message) (ws : List Writer) (js : List Journal) → Distinct (names_of js) → ArePlaced js ws
-    → all_appended (places_of ws) (map (ended (line_of ack)) (with_lines count place lines (replicate (length ws) []))) js ≡ written_to count place lines ack (map name_of ws) js
-written_places count place lines ack [] js d p = refl
-written_places count place lines ack (w ∷ ws) js d p =
+pub written_places : (attempt : Attempt) (count place : ℕ) (lines : List Message) (ack : Message) (ws : List Writer) (js : List Journal) → Distinct (names_of js) → ArePlaced js ws
+    → all_appended attempt (places_of ws) (map (ended (line_of ack)) (with_lines count place lines (replicate (length ws) []))) js ≡ written_to attempt count place lines ack (map name_of ws) js
+written_places attempt count place lines ack [] js d p = refl
+written_places attempt count place lines ack (w ∷ ws) js d p =
     let bytes : List ℕ = text_of_lines (closed ack (lines_to count place lines)) in
     let rest : List (List ℕ) = map (ended (line_of ack)) (with_lines count (place + 1) lines (replicate (length ws) [])) in
-    let same : appended_at w.place (ended (line_of ack) (text_of_lines (lines_to count place lines))) js ≡ appended w.journal bytes js =
-    rw (ended_is ack (lines_to count place lines), p.0) (sym (appended_is w.journal bytes js d)) in
-    ap (λ (new : List Journal). all_appended (places_of ws) rest new) same
-    ∙ written_places count (place + 1) lines ack ws (appended w.journal bytes js) (distinct_stay w.journal bytes js d) (placed_stay w.journal bytes js ws p.1)
+    let same : appended_at attempt w.place (ended (line_of ack) (text_of_lines (lines_to count place lines))) js ≡ appended attempt w.journal bytes js =
+    rw (ended_is ack (lines_to count place lines), p.0) (sym (appended_is attempt w.journal bytes js d)) in
+    ap (λ (new : List Journal). all_appended attempt (places_of ws) rest new) same
+    ∙ written_places attempt count (place + 1) lines ack ws (appended attempt w.journal bytes js) (distinct_stay attempt w.journal bytes js d) (placed_stay attempt w.journal bytes js ws p.1)
 
 -- ---- what stays in a commit
 
 -- the names stay
-pub names_written : (count place : ℕ) (lines : List Message) (ack : Message) (names : List (List ℕ)) (js : List Journal) → names_of (written_to count place lines ack names js) ≡ names_of js
-names_written count place lines ack [] js = refl
-names_written count place lines ack (n ∷ names) js =
+pub names_written : (attempt : Attempt) (count place : ℕ) (lines : List Message) (ack : Message) (names : List (List ℕ)) (js : List Journal) → names_of (written_to attempt count place lines ack names js) ≡ names_of js
+names_written attempt count place lines ack [] js = refl
+names_written attempt count place lines ack (n ∷ names) js =
     let bytes : List ℕ = text_of_lines (closed ack (lines_to count place lines)) in
-    names_written count (place + 1) lines ack names (appended n bytes js) ∙ names_stay n bytes js
+    names_written attempt count (place + 1) lines ack names (appended attempt n bytes js) ∙ names_stay attempt n bytes js
 
 -- the places stay
-pub place_written : (count place : ℕ) (lines : List Message) (ack : Message) (names : List (List ℕ)) (js : List Journal) (other : List ℕ)
-    → place_of other (written_to count place lines ack names js) ≡ place_of other js
-place_written count place lines ack [] js other = refl
-place_written count place lines ack (n ∷ names) js other =
+pub place_written : (attempt : Attempt) (count place : ℕ) (lines : List Message) (ack : Message) (names : List (List ℕ)) (js : List Journal) (other : List ℕ)
+    → place_of other (written_to attempt count place lines ack names js) ≡ place_of other js
+place_written attempt count place lines ack [] js other = refl
+place_written attempt count place lines ack (n ∷ names) js other =
     let bytes : List ℕ = text_of_lines (closed ack (lines_to count place lines)) in
-    place_written count (place + 1) lines ack names (appended n bytes js) other ∙ place_stays n bytes other js
-
--- writers stay at the places of their journals
-pub placed_written : (count place : ℕ) (lines : List Message) (ack : Message) (names : List (List ℕ)) (js : List Journal) (ws : List Writer) → ArePlaced js ws
-    → ArePlaced (written_to count place lines ack names js) ws
-placed_written count place lines ack names js [] p = tt
-placed_written count place lines ack names js (w ∷ ws) p =
-    (p.0 ∙ sym (place_written count place lines ack names js w.journal), placed_written count place lines ack names js ws p.1)
+    place_written attempt count (place + 1) lines ack names (appended attempt n bytes js) other ∙ place_stays attempt n bytes other js

@@ -2,10 +2,13 @@
 use Rattle.std.proofs.Common.{◌≡◌, ℕ, List, [], ◌∷◌, ◌++◌, refl, true, Option, Some, None, inl, inr}
 use Rattle.gz_frame.specs.Messages.{Message}
 use Rattle.gz_frame.proofs.Whole.{no_messages}
-use Rattle.gz_plain.specs.Order.{wirings_of, AreInOrder, AllRest}
-use Rattle.gz_promise.specs.Promise.{ReadsAll}
-use Rattle.gz_plain.specs.Journals.{Journal}
-use Rattle.gz_plain.specs.Promise.{account_of, AllExactlyOnce, IfKept}
+use Rattle.gz_promise.specs.Order.{AreInOrder}
+use Rattle.gz_plain.specs.Rests.{wirings_of, AllRest}
+use Rattle.gz_promise.specs.Promise.{Delivers, ReadsAll}
+use Rattle.gz_promise.proofs.Users.{serves}
+use Rattle.gz_promise.specs.Journals.{Journal}
+use Rattle.gz_promise.specs.Sources.{AllEndLines}
+use Rattle.gz_plain.specs.Promise.{account_of, AllCommitLines, AllExactlyOnce, AllServe, IfKept, Serves}
 use Rattle.gz_plain.specs.Reports.{AllTellCaught, AllUpToDate, IsUpToDate, TellsCaught, is_none}
 use Rattle.gz_plain.specs.Shards.{Past, Shard, World, round, settled, untaken}
 use Rattle.gz_plain.specs.Runs.{nothing, Event, lands, settles, changes, after_event, after_events, IsLine, AreClients, MayHappen, MayAllHappen}
@@ -34,7 +37,7 @@ sound_nothing = record {
 }
 
 pub sound_event : (e : Event) (w : World) → MayHappen e w → IsSound w → IsSound (after_event e w)
-sound_event (lands name ms) w may s = sound_appended name ms w (each_line ms may) (λ n. none_of n ms may) s
+sound_event (lands attempt name ms) w may s = sound_appended attempt name ms w (each_line ms may) (λ n. none_of n ms may) s
 sound_event settles w may s = sound_settled w s
 sound_event (changes names ds) w may s = sound_changed names ds w may s
 
@@ -58,6 +61,25 @@ pub all_exactly_once_after : (es : List Event) → MayAllHappen es nothing → A
 all_exactly_once_after es may =
     let w : World = after_events es nothing in
     all_exactly_once w.journals w.shards (sound_events es nothing may sound_nothing).kept
+
+-- then users are served too
+pub all_serve : (js : List Journal) (ss : List Shard) → AllExactlyOnce js ss → AllServe js ss
+all_serve js [] once = tt
+all_serve js (s ∷ ss) once =
+    (if_kept s.past (Delivers (account_of js s)) (Serves js s) (λ d. record { delivers = d; users = serves (account_of js s) d.once }) once.0, all_serve js ss once.1)
+
+pub all_serve_after : (es : List Event) → MayAllHappen es nothing → AllServe (after_events es nothing).journals (after_events es nothing).shards
+all_serve_after es may = all_serve (after_events es nothing).journals (after_events es nothing).shards (all_exactly_once_after es may)
+
+-- what is committed ends with whole lines
+all_commit_lines : (js : List Journal) (ss : List Shard) → AllKept js ss → AllCommitLines js ss
+all_commit_lines js [] k = tt
+all_commit_lines js (s ∷ ss) k = (if_kept s.past (Kept js s) (AllEndLines js s.commits s.sources) (λ x. x.lines) k.0, all_commit_lines js ss k.1)
+
+pub all_lines_after : (es : List Event) → MayAllHappen es nothing → AllCommitLines (after_events es nothing).journals (after_events es nothing).shards
+all_lines_after es may =
+    let w : World = after_events es nothing in
+    all_commit_lines w.journals w.shards (sound_events es nothing may sound_nothing).kept
 
 pub settled_stays : (rank : List ℕ → ℕ) (w : World) → AreInOrder rank (wirings_of w.shards) → round (settled w).shards (settled w).journals ≡ settled w
 settled_stays rank w order = quiet_round (settled w).journals (settled w).shards (settled_quiet rank w order)

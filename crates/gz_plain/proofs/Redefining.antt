@@ -12,7 +12,7 @@ use Rattle.gz_sequencer.specs.Machine.{Point, fed, point_of, started}
 use Rattle.gz_sequencer.proofs.AnyCuts.{fed_is_committed}
 use Rattle.gz_plain.specs.Cluster.{AreSmallSources, definition_of, passed, reaches, reader_upto, readers_upto, source_named, writer_at}
 use Rattle.gz_plain.specs.Definitions.{least, mark_or, marks_of, resumes_at, with_definition}
-use Rattle.gz_plain.specs.Journals.{Journal, text_of, text_at, place_of}
+use Rattle.gz_promise.specs.Journals.{Journal, text_of, text_at, place_of}
 use Rattle.gz_plain.specs.Places.{ArePlaced}
 use Rattle.gz_promise.specs.Parts.{part}
 use Rattle.gz_plain.specs.Readers.{AreRead}
@@ -21,7 +21,7 @@ use Rattle.gz_plain.specs.Runs.{ArePresent}
 use Rattle.gz_plain.specs.Seen.{name_of, shard_of, source_of}
 use Rattle.gz_plain.specs.Shards as shards
 use Rattle.gz_plain.specs.Shards.{Mark, Past, last_offsets, read_order}
-use Rattle.gz_plain.specs.Sources.{Source, all_committed, committed, end_of, froms_of, last_of, order_of, parts, text_from}
+use Rattle.gz_promise.specs.Sources.{Source, all_committed, committed, end_of, froms_of, last_of, order_of, parts, text_from}
 use Rattle.gz_plain.specs.declared.cluster.Definition as declared
 use Rattle.gz_plain.specs.declared.cluster.Source as named
 use Rattle.gz_plain.specs.declared.reader.Reader.{Reader}
@@ -237,17 +237,6 @@ redefined_kept js d s new has_commits ms small read written r =
       linked = rw (sources, names) (read, written);
       count = r.messages ∙ ap (λ (xs : List Message). length xs) (sym order);
     }
-
--- whether a shard is disabled doesn't matter for what it keeps
-pub kept_able : (js : List Journal) (s : Shard) (is_disabled : Bool) → IsKept js s → IsKept js (record s { is_disabled = is_disabled })
-kept_able js s is_disabled k = record {
-  readers = k.readers;
-  taken = k.taken;
-  upto = k.upto;
-  writers = k.writers;
-  linked = k.linked;
-  count = k.count;
-}
 
 -- ---- one source as the program reads it
 

@@ -5,7 +5,7 @@ use Rattle.gz_plain.specs.Cluster.{source_named}
 use Rattle.gz_plain.specs.Definitions.{same_names, same_sources}
 use Rattle.gz_plain.specs.Seen.{name_of, shard_of, source_of}
 use Rattle.gz_plain.specs.Shards.{last_offsets}
-use Rattle.gz_plain.specs.Sources.{froms_of, last_of}
+use Rattle.gz_promise.specs.Sources.{froms_of, last_of}
 use Rattle.gz_plain.specs.declared.cluster.Source as named
 use Rattle.gz_plain.specs.declared.reader.Reader.{Reader}
 use Rattle.gz_plain.specs.declared.shard.Shard.{Shard}

@@ -3,13 +3,14 @@ use Rattle.std.proofs.Common.{◌≡◌, ℕ, zero, suc, ◌+◌, ◌<◌, ◌�
 use Rattle.std.specs.Prelude.{⊤}
 use Rattle.std.specs.Str.{bytes_eq}
 use Rattle.gz_uuid.specs.Producer.{shard_octets}
+use Rattle.gz_label.specs.declared.entry.Attempt.{Attempt}
 use Rattle.gz_frame.specs.Messages.{Message}
 use Rattle.gz_frame.specs.Release.{of_producer}
 use Rattle.gz_app.specs.Applications.{Output}
 use Rattle.gz_promise.specs.Applications.{emitted}
 use Rattle.gz_plain.specs.Plain.{lines_from, ack_at}
-use Rattle.gz_plain.specs.Journals.{Journal, appended, AreWhole}
-use Rattle.gz_plain.specs.Shards.{Past, Shard, Beside, World, untaken, journals_after, committing, commit, commit_if, stepped, has_room, round, rounds, settled, text_of_lines}
+use Rattle.gz_promise.specs.Journals.{Journal, appended, AreWhole}
+use Rattle.gz_plain.specs.Shards.{attempt_of, Past, Shard, Beside, World, untaken, journals_after, committing, commit, commit_if, stepped, has_room, round, rounds, settled, text_of_lines}
 use Rattle.gz_promise.specs.Promise.{Delivers}
 use Rattle.gz_plain.specs.Promise.{account_of, IfKept, AllExactlyOnce}
 use Rattle.gz_sequencer.proofs.Produced.{Each}
@@ -60,12 +61,12 @@ commit_step js ms s is whole lawful room k =
     let ack : Message = ack_at s.producer (s.clock + length os + 1) in
     let w = writes_lines js ms s is lawful room in
     let new : List Journal = journals_after s os js in
-    let present : (names : List (List ℕ)) → ArePresent names js → ArePresent names new = λ names a. present_written (length s.outputs) 0 lines ack s.outputs js names a in
+    let present : (names : List (List ℕ)) → ArePresent names js → ArePresent names new = λ names a. present_written (attempt_of s) (length s.outputs) 0 lines ack s.outputs js names a in
     record {
       kept = if_kept s.past (Kept js s) (Kept new (committing js ms s)) (λ x. kept_commit js ms s is whole lawful room x) k;
-      foreign = λ p other. foreign_written p s.producer (length s.outputs) 0 s.clock os s.outputs js other w.1 w.0;
+      foreign = λ p other. foreign_written (attempt_of s) p s.producer (length s.outputs) 0 s.clock os s.outputs js other w.1 w.0;
       present = present;
-      whole = grow_whole js new (grow_written (length s.outputs) 0 lines ack s.outputs js w.1 w.0) whole;
+      whole = grow_whole js new (grow_written (attempt_of s) (length s.outputs) 0 lines ack s.outputs js w.1 w.0) whole;
       producer = refl;
       lawful = commit_lawful js new ms s present lawful;
     }
@@ -234,28 +235,28 @@ sound_settled w s = sound_rounds (length w.shards) w s
 abbrev pub AreOthers : List Message → Type 0
 AreOthers ms = (n : ℕ) → of_producer (shard_octets n) ms ≡ []
 
-kept_appended : (name : List ℕ) (ms : List Message) (next : ℕ) (js : List Journal) (ss : List Shard) → AreWhole js → Each IsLine ms → AreOthers ms → AreNumbered next ss → AllKept js ss
-    → AllKept (appended name (text_of_lines ms) js) ss
-kept_appended name ms next js [] whole each others numbered k = tt
-kept_appended name ms next js (s ∷ ss) whole each others numbered k =
-    let new : List Journal = appended name (text_of_lines ms) js in
+kept_appended : (attempt : Attempt) (name : List ℕ) (ms : List Message) (next : ℕ) (js : List Journal) (ss : List Shard) → AreWhole js → Each IsLine ms → AreOthers ms → AreNumbered next ss → AllKept js ss
+    → AllKept (appended attempt name (text_of_lines ms) js) ss
+kept_appended attempt name ms next js [] whole each others numbered k = tt
+kept_appended attempt name ms next js (s ∷ ss) whole each others numbered k =
+    let new : List Journal = appended attempt name (text_of_lines ms) js in
     let none : of_producer s.producer ms ≡ [] = ap (λ (p : List ℕ). of_producer p ms) numbered.0.is ∙ others numbered.0.number in (
-      if_kept s.past (Kept js s) (Kept new s) (λ x. kept_foreign js new s whole (foreign_appended s.producer name ms js each none) x) k.0,
-      kept_appended name ms next js ss whole each others numbered.1 k.1,
+      if_kept s.past (Kept js s) (Kept new s) (λ x. kept_foreign js new s whole (foreign_appended attempt s.producer name ms js each none) x) k.0,
+      kept_appended attempt name ms next js ss whole each others numbered.1 k.1,
     )
 
-pub sound_appended : (name : List ℕ) (ms : List Message) (w : World) → Each IsLine ms → AreOthers ms → IsSound w
-    → IsSound (record w { journals = appended name (text_of_lines ms) w.journals })
-sound_appended name ms w each others s =
-    let new : List Journal = appended name (text_of_lines ms) w.journals in
+pub sound_appended : (attempt : Attempt) (name : List ℕ) (ms : List Message) (w : World) → Each IsLine ms → AreOthers ms → IsSound w
+    → IsSound (record w { journals = appended attempt name (text_of_lines ms) w.journals })
+sound_appended attempt name ms w each others s =
+    let new : List Journal = appended attempt name (text_of_lines ms) w.journals in
     record {
-      whole = grow_whole w.journals new (grow_appended name (text_of_lines ms) w.journals (lines_whole ms each)) s.whole;
-      lawful = lawful_others w.journals new w.shards (λ names a. present_stays name (text_of_lines ms) w.journals names a) s.lawful;
+      whole = grow_whole w.journals new (grow_appended attempt name (text_of_lines ms) w.journals (lines_whole ms each)) s.whole;
+      lawful = lawful_others w.journals new w.shards (λ names a. present_stays attempt name (text_of_lines ms) w.journals names a) s.lawful;
       own = s.own;
-      kept = kept_appended name ms (1 + length w.shards) w.journals w.shards s.whole each others s.numbered s.kept;
+      kept = kept_appended attempt name ms (1 + length w.shards) w.journals w.shards s.whole each others s.numbered s.kept;
       numbered = s.numbered;
       clean = λ n above fits.
-          clean_foreign (shard_octets n) w.journals new s.whole (foreign_appended (shard_octets n) name ms w.journals each (others n)) (s.clean n above fits);
+          clean_foreign (shard_octets n) w.journals new s.whole (foreign_appended attempt (shard_octets n) name ms w.journals each (others n)) (s.clean n above fits);
     }
 
 -- ---- the promise

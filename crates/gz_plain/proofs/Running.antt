@@ -8,10 +8,10 @@ use Rattle.gz_frame.specs.Release.{Release}
 use Rattle.gz_frame.specs.Text.{messages_of}
 use Rattle.gz_sequencer.specs.Committed.{committed, released_in}
 use Rattle.gz_sequencer.specs.Machine.{Point, started, fed, point_of}
-use Rattle.gz_plain.specs.Journals.{Journal, text_of, place_of}
+use Rattle.gz_promise.specs.Journals.{Journal, text_of, place_of}
 use Rattle.gz_promise.specs.Parts.{part}
-use Rattle.gz_plain.specs.Sources as sources
-use Rattle.gz_plain.specs.Sources.{Source, end_of, ends_of, all_committed, froms_of, parts}
+use Rattle.gz_promise.specs.Sources as sources
+use Rattle.gz_promise.specs.Sources.{Source, end_of, ends_of, all_committed, froms_of, parts}
 use Rattle.gz_plain.specs.Seen.{source_of}
 use Rattle.gz_plain.specs.Readers.{IsRead, AreRead, HaveRoom, news, whole, reading, accepted, accepted_if, reading_all, accepted_all, all_news, text_behind, text_for, end_of_reader}
 use Rattle.gz_plain.specs.Running.{AllEndBy, IsTaken, AreTaken}

@@ -5,10 +5,11 @@ use Rattle.gz_frame.specs.Messages.{Message}
 use Rattle.gz_app.specs.Applications.{Output}
 use Rattle.gz_promise.specs.Applications.{emitted}
 use Rattle.gz_plain.specs.Plain.{lines_from, ack_at}
-use Rattle.gz_plain.specs.Journals.{Journal, text_of}
-use Rattle.gz_plain.specs.Sources.{Source, froms_of, ends_of, all_committed, parts}
-use Rattle.gz_plain.specs.Shards.{Shard, Beside, World, untaken, journals_after, commit, commit_if, stepped, has_room, round, rounds, settled}
-use Rattle.gz_plain.specs.Order.{Wiring, wiring_of, wirings_of, IsBeside, IsBefore, AreBefore, AllBefore, AllBelow, AreInOrder, Rests, AllRest}
+use Rattle.gz_promise.specs.Journals.{Journal, text_of}
+use Rattle.gz_promise.specs.Sources.{Source, froms_of, ends_of, all_committed, parts}
+use Rattle.gz_plain.specs.Shards.{Shard, Beside, World, attempt_of, untaken, journals_after, commit, commit_if, stepped, has_room, round, rounds, settled}
+use Rattle.gz_promise.specs.Order.{Wiring, IsBeside, IsBefore, AreBefore, AllBefore, AllBelow, AreInOrder}
+use Rattle.gz_plain.specs.Rests.{wiring_of, wirings_of, Rests, AllRest}
 use Rattle.gz_plain.proofs.Writes.{others_stay}
 use Rattle.gz_plain.proofs.Takes.{parts_none, last_is_more}
 use Rattle.gz_plain.proofs.Steps.{Kept}
@@ -45,7 +46,7 @@ stay_two a b c (s ∷ ss) f g = (g.0 ∙ f.0, stay_two a b c ss f.1 g.1)
 stay_written : (js : List Journal) (t : Shard) (os : List Output) (ss : List Source) → IsBeside t.outputs ss → SourcesStay js (journals_after t os js) ss
 stay_written js t os [] apart = tt
 stay_written js t os (s ∷ ss) apart =
-    (others_stay (length t.outputs) 0 (lines_from t.producer t.clock os) (ack_at t.producer (t.clock + length os + 1)) t.outputs js s.journal apart.0, stay_written js t os ss apart.1)
+    (others_stay (attempt_of t) (length t.outputs) 0 (lines_from t.producer t.clock os) (ack_at t.producer (t.clock + length os + 1)) t.outputs js s.journal apart.0, stay_written js t os ss apart.1)
 
 -- ---- a shard that takes nothing
 

@@ -1,7 +1,7 @@
 -- What rounds of steps make of shards and journals, as the program has them.
 use Rattle.std.proofs.Common.{◌≡◌, ℕ, zero, suc, ◌+◌, ◌-◌, ◌<◌, ◌≤◌, List, [], ◌∷◌, ◌++◌, length, refl, ap, sym, ◌∙◌, subst, append_assoc, append-nil, Bool, true, false, ◌&&◌, arith}
 use Rattle.std.proofs.lemmas.List.{map-append}
-use Rattle.gz_plain.specs.Journals.{Journal}
+use Rattle.gz_promise.specs.Journals.{Journal}
 use Rattle.gz_plain.specs.Places.{names_of}
 use Rattle.gz_plain.specs.Running.{IsKept, AllKept}
 use Rattle.gz_promise.specs.Names.{Distinct}
@@ -28,9 +28,6 @@ pub record IsRound (start : List Journal) (all : List Shard) (js : List Journal)
   pub ahead : AllKept js next
   pub names : names_of js ≡ names_of start
   pub quiet : is_quiet ≡ true → (js ≡ start) × (shards_of past ++ shards_of next ≡ shards_of all)
-
-pub round_start : (js : List Journal) (all : List Shard) → AllKept js all → IsRound js all js [] all true
-round_start js all k = record { round = refl; done = tt; ahead = k; names = refl; quiet = λ _. (refl, refl) }
 
 quiet_first : (a b : Bool) → (a && b) ≡ true → a ≡ true
 quiet_first true b is = refl
@@ -72,19 +69,6 @@ round_turn start all js new done done2 ahead ahead2 s after q step_quiet q2 next
                 ∙ ap (λ (ss : List Shard). shards_of done ++ shards_of ss) (sym next) ∙ before.1,
           );
     }
-
--- a round is done
-pub round_done : (start : List Journal) (all : List Shard) (js : List Journal) (done : List Shard) (q : Bool) → IsRound start all js done [] q
-    → record { journals = js; shards = shards_of done } ≡ round (shards_of all) start
-round_done start all js done q inv = ap (λ (xs : List shards.Shard). record { journals = js; shards = xs }) (sym (append-nil (shards_of done))) ∙ inv.round
-
-pub round_quiet : (start : List Journal) (all : List Shard) (js : List Journal) (done : List Shard) (q : Bool) → q ≡ true → IsRound start all js done [] q
-    → round (shards_of all) start ≡ record { journals = start; shards = shards_of all }
-round_quiet start all js done q held inv =
-    let same = inv.quiet held in
-    sym (round_done start all js done q inv)
-    ∙ ap (λ (x : List Journal). record { journals = x; shards = shards_of done }) same.0
-    ∙ ap (λ (xs : List shards.Shard). record { journals = start; shards = xs }) (sym (append-nil (shards_of done)) ∙ same.1)
 
 -- ---- rounds
 
@@ -130,9 +114,3 @@ pub settle_quiet : (start : List Journal) (all : List Shard) (js new : List Jour
     → IsSettling start all js ss i → record { journals = new; shards = shards_of after } ≡ settled (record { journals = start; shards = shards_of all })
 settle_quiet start all js new ss after i is quiet inv =
     is ∙ quiet ∙ sym (rounds_quiet (length all - i) (record { journals = js; shards = shards_of ss }) quiet) ∙ inv.rounds
-
-pub settle_done : (start : List Journal) (all : List Shard) (js : List Journal) (ss : List Shard) (i : ℕ) → length all ≤ i
-    → IsSettling start all js ss i → record { journals = js; shards = shards_of ss } ≡ settled (record { journals = start; shards = shards_of all })
-settle_done start all js ss i end inv =
-    let none : length all - i ≡ 0 = omega (arith, end) in
-    sym (ap (λ (n : ℕ). shards.rounds n (record { journals = js; shards = shards_of ss })) none) ∙ inv.rounds

@@ -10,7 +10,7 @@ use Rattle.gz_frame.proofs.Lines.{lawful_line_reads_back}
 use Rattle.gz_frame.proofs.Texts.{is_lawful}
 use Rattle.std.proofs.lemmas.Str.{IsUtf8-nil}
 use Rattle.gz_plain.specs.Definitions.{Definition, fresh}
-use Rattle.gz_plain.specs.Journals.{Journal}
+use Rattle.gz_promise.specs.Journals.{Journal}
 use Rattle.gz_plain.specs.Runs.{AreClients}
 use Rattle.gz_plain.proofs.Takes.{none_taken}
 use Rattle.gz_plain.proofs.Writes.{IsClean, holds_clean}
@@ -100,6 +100,7 @@ kept_new js number d clean = record {
   batches = [];
   taken = none_taken 0 js d.sources;
   upto = tt;
+  lines = tt;
   shape = tt;
   store = refl;
   puts = refl;

@@ -1,16 +1,18 @@
 -- What steps, rounds and settles leave: what the shards are said to be, and the names of the journals.
 use Rattle.std.proofs.Common.{◌≡◌, ℕ, zero, suc, ◌+◌, List, [], ◌∷◌, ◌++◌, length, map, refl, ap, ◌∙◌, Bool, true, false, cond}
 use Rattle.std.proofs.lemmas.List.{map-append}
+use Rattle.gz_label.specs.declared.entry.Attempt.{Attempt}
 use Rattle.gz_frame.specs.Messages.{Message}
 use Rattle.gz_app.specs.Applications.{Output}
 use Rattle.gz_promise.specs.Applications.{emitted}
 use Rattle.gz_plain.specs.Definitions.{Definition, definition_of}
-use Rattle.gz_plain.specs.Journals.{Journal, appended}
-use Rattle.gz_plain.specs.Order.{Wiring, wiring_of, wirings_of}
+use Rattle.gz_promise.specs.Journals.{Journal, appended}
+use Rattle.gz_promise.specs.Order.{Wiring}
+use Rattle.gz_plain.specs.Rests.{wiring_of, wirings_of}
 use Rattle.gz_plain.specs.Places.{names_of}
 use Rattle.gz_plain.specs.Plain.{lines_from, ack_at}
 use Rattle.gz_plain.specs.Runs.{all_empty, changed}
-use Rattle.gz_plain.specs.Shards.{Shard, World, untaken, commit, commit_if, stepped, has_room, round, rounds, settled}
+use Rattle.gz_plain.specs.Shards.{Shard, World, attempt_of, untaken, commit, commit_if, stepped, has_room, round, rounds, settled}
 use Rattle.gz_plain.proofs.Places.{names_stay, names_empty, names_written}
 
 -- ---- what the shards are said to be
@@ -53,18 +55,13 @@ wiring_said d = record { id = d.id; sources = d.sources; outputs = d.outputs }
 pub wired : (js : List Journal) (s : Shard) → wiring_of (stepped js s).shard ≡ wiring_of s
 wired js s = ap (λ (d : Definition). wiring_said d) (definition_stepped js s)
 
--- the wiring is that of the definitions
-pub wirings_said : (ss : List Shard) → wirings_of ss ≡ map wiring_said (map definition_of ss)
-wirings_said [] = refl
-wirings_said (s ∷ ss) = ap (λ (us : List Wiring). wiring_of s ∷ us) (wirings_said ss)
-
 -- ---- the names of the journals
 
 names_room : (js : List Journal) (ms : List Message) (s : Shard) (room : Bool)
     → names_of (cond room (commit js ms s) (record { journals = js; shard = s })).journals ≡ names_of js
 names_room js ms s true =
     let os : List Output = emitted s.app s.store ms in
-    names_written (length s.outputs) 0 (lines_from s.producer s.clock os) (ack_at s.producer (s.clock + length os + 1)) s.outputs js
+    names_written (attempt_of s) (length s.outputs) 0 (lines_from s.producer s.clock os) (ack_at s.producer (s.clock + length os + 1)) s.outputs js
 names_room js ms s false = refl
 
 names_if : (js : List Journal) (ms : List Message) (s : Shard) → names_of (commit_if js ms s).journals ≡ names_of js
@@ -92,8 +89,8 @@ pub names_settled : (w : World) → names_of (settled w).journals ≡ names_of w
 names_settled w = names_rounds (length w.shards) w
 
 -- an append leaves them
-pub names_appended : (name bytes : List ℕ) (js : List Journal) → names_of (appended name bytes js) ≡ names_of js
-names_appended name bytes js = names_stay name bytes js
+pub names_appended : (attempt : Attempt) (name bytes : List ℕ) (js : List Journal) → names_of (appended attempt name bytes js) ≡ names_of js
+names_appended attempt name bytes js = names_stay attempt name bytes js
 
 -- a change puts those of its journals behind them
 pub names_changed : (names : List (List ℕ)) (ds : List Definition) (w : World) → names_of (changed names ds w).journals ≡ names_of w.journals ++ names

@@ -2,18 +2,19 @@
 use Rattle.std.proofs.Common.{◌≡◌, ℕ, suc, ◌+◌, ◌==◌, ◌^◌, List, [], ◌∷◌, ◌++◌, length, map, refl, ap, sym, ◌∙◌, subst, Bool, true, false, cond, nat_lt, arith}
 use Rattle.std.proofs.lemmas.Grind.{common_steps}
 use Rattle.std.proofs.lemmas.List.{length-append}
+use Rattle.gz_label.specs.declared.entry.Attempt.{Attempt}
 use Rattle.gz_frame.specs.Messages.{Message}
 use Rattle.gz_app.specs.Applications.{Output}
 use Rattle.gz_promise.specs.Applications.{folded, emitted}
-use Rattle.gz_plain.specs.Journals.{Journal, is_journal, place_of, appended}
+use Rattle.gz_promise.specs.Journals.{Journal, is_journal, place_of, appended}
 use Rattle.gz_plain.specs.Places.{ArePlaced, names_of}
 use Rattle.gz_plain.specs.Plain.{lines_from, ack_at}
 use Rattle.gz_plain.specs.Readers.{AreRead, accepted_all, reading_all, all_news, end_of_reader}
 use Rattle.gz_plain.specs.Running.{AllUpto, AreTaken, IsKept, IsLinked, AllKept, IsCommitted, journals_of, read_further, read_up}
 use Rattle.gz_plain.specs.Seen.{shard_of, source_of, name_of}
 use Rattle.gz_plain.specs.Shards as shards
-use Rattle.gz_plain.specs.Shards.{Beside, last_offsets, untaken, read_order, has_room, commit_if, committing, journals_after, stepped}
-use Rattle.gz_plain.specs.Sources.{Source, froms_of, ends_of, all_committed}
+use Rattle.gz_plain.specs.Shards.{Beside, last_offsets, untaken, read_order, has_room, commit_if, committing, journals_after, attempt_of, stepped}
+use Rattle.gz_promise.specs.Sources.{Source, froms_of, ends_of, all_committed}
 use Rattle.gz_plain.specs.declared.shard.Shard.{Shard}
 use Rattle.gz_plain.specs.declared.writer.Writer.{Writer}
 use Rattle.gz_plain.proofs.Longer.{Longer, longer_none, longer_two, longer_appended, longer_written}
@@ -33,20 +34,17 @@ pub record Grows (js new : List Journal) : Type 0 where
 pub grows_none : (js : List Journal) → Grows js js
 grows_none js = record { longer = longer_none js; places = λ name. refl; names = refl }
 
-pub grows_two : (a b c : List Journal) → Grows a b → Grows b c → Grows a c
-grows_two a b c f g = record { longer = longer_two a b c f.longer g.longer; places = λ name. g.places name ∙ f.places name; names = g.names ∙ f.names }
-
-pub grows_appended : (name bytes : List ℕ) (js : List Journal) → Grows js (appended name bytes js)
-grows_appended name bytes js = record { longer = longer_appended name bytes js; places = λ other. place_stays name bytes other js; names = names_stay name bytes js }
+pub grows_appended : (attempt : Attempt) (name bytes : List ℕ) (js : List Journal) → Grows js (appended attempt name bytes js)
+grows_appended attempt name bytes js = record { longer = longer_appended attempt name bytes js; places = λ other. place_stays attempt name bytes other js; names = names_stay attempt name bytes js }
 
 pub grows_after : (s : shards.Shard) (os : List Output) (js : List Journal) → Grows js (journals_after s os js)
 grows_after s os js =
     let lines : List Message = lines_from s.producer s.clock os in
     let ack : Message = ack_at s.producer (s.clock + length os + 1) in
     record {
-      longer = longer_written (length s.outputs) 0 lines ack s.outputs js;
-      places = λ name. place_written (length s.outputs) 0 lines ack s.outputs js name;
-      names = names_written (length s.outputs) 0 lines ack s.outputs js;
+      longer = longer_written (attempt_of s) (length s.outputs) 0 lines ack s.outputs js;
+      places = λ name. place_written (attempt_of s) (length s.outputs) 0 lines ack s.outputs js name;
+      names = names_written (attempt_of s) (length s.outputs) 0 lines ack s.outputs js;
     }
 
 grows_room : (b : Bool) (js : List Journal) (ms : List Message) (s : shards.Shard) → Grows js (cond b (shards.commit js ms s) (record { journals = js; shard = s })).journals
@@ -137,9 +135,6 @@ kept_up js s k none =
 pub record IsStepped (js : List Journal) (s : Shard) (new : List Journal) (after : Shard) : Type 0 where
   pub is : record { journals = new; shard = shard_of after } ≡ stepped js (shard_of s)
   pub kept : IsKept new after
-
-pub step_disabled : (js : List Journal) (s : Shard) → s.is_disabled ≡ true → stepped js (shard_of s) ≡ record { journals = js; shard = shard_of s }
-step_disabled js s disabled = rw (disabled) refl
 
 able_step : (js : List Journal) (s : shards.Shard) → s.is_disabled ≡ false → stepped js s ≡ commit_if js (untaken js s) s
 able_step js s able = ap (λ (b : Bool). cond b (record { journals = js; shard = s }) (commit_if js (untaken js s) s)) able
@@ -245,5 +240,5 @@ some_of ms b is held none =
     clash : (b : Bool) → (length ms == 0) ≡ false → (length ms == 0) ≡ true → ⊥
     clash b a c = cc
 
-pub kept_appended : (name bytes : List ℕ) (js new : List Journal) (ss : List Shard) → new ≡ appended name bytes js → AllKept js ss → AllKept new ss
-kept_appended name bytes js new ss is k = subst (λ (x : List Journal). AllKept x ss) (sym is) (all_kept_grown js (appended name bytes js) ss (grows_appended name bytes js) k)
+pub kept_appended : (attempt : Attempt) (name bytes : List ℕ) (js new : List Journal) (ss : List Shard) → new ≡ appended attempt name bytes js → AllKept js ss → AllKept new ss
+kept_appended attempt name bytes js new ss is k = subst (λ (x : List Journal). AllKept x ss) (sym is) (all_kept_grown js (appended attempt name bytes js) ss (grows_appended attempt name bytes js) k)

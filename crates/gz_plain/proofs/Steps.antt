@@ -14,9 +14,10 @@ use Rattle.gz_app.specs.Applications.{raised}
 use Rattle.gz_app.specs.declared.app.AppKind.{AppKind}
 use Rattle.gz_app.specs.declared.app.AppKind.TheVariants.{Count, Relay, Latest}
 use Rattle.gz_plain.specs.Plain.{lines_from, ack_at}
-use Rattle.gz_plain.specs.Journals.{Journal, AreWhole}
-use Rattle.gz_plain.specs.Sources.{froms_of, ends_of, all_committed}
-use Rattle.gz_plain.specs.Shards.{Shard, read_order, last_offsets, untaken, journals_after, committing, has_room}
+use Rattle.gz_promise.specs.Journals.{Journal, AreWhole}
+use Rattle.gz_promise.specs.Sources.{froms_of, ends_of, all_committed, AllEndLines}
+use Rattle.gz_plain.proofs.LineEnds.{end_lines, all_lines_later, all_lines_more}
+use Rattle.gz_plain.specs.Shards.{Shard, read_order, last_offsets, untaken, attempt_of, journals_after, committing, has_room}
 use Rattle.gz_promise.specs.Promise.{AcceptAll, Delivers}
 use Rattle.gz_plain.specs.Promise.{account_of, all_accepted}
 use Rattle.gz_plain.proofs.Lawful.{IsMessage, parts_messages}
@@ -57,6 +58,7 @@ pub record Kept (js : List Journal) (s : Shard) : Type 0 where
   pub batches : List (List Output)
   pub taken : AllTaken 0 js s.sources s.commits
   pub upto : AllUpto js s.commits s.sources
+  pub lines : AllEndLines js s.commits s.sources
   pub shape : AllShaped s.commits s.sources
   pub store : s.store ≡ folded s.app [] (read_order js s)
   pub puts : joined batches ≡ emitted s.app [] (read_order js s)
@@ -161,12 +163,13 @@ kept_commit js ms s is whole lawful room k =
     let new : List Journal = journals_after s os js in
     let ends : List ℕ = ends_of js s.sources in
     let w = writes_lines js ms s is lawful room in
-    let grow : Grow js new = grow_written (length s.outputs) 0 (lines_from s.producer s.clock os) (ack_at s.producer (s.clock + length os + 1)) s.outputs js w.1 w.0 in
+    let grow : Grow js new = grow_written (attempt_of s) (length s.outputs) 0 (lines_from s.producer s.clock os) (ack_at s.producer (s.clock + length os + 1)) s.outputs js w.1 w.0 in
     let order : read_order new (committing js ms s) ≡ read_order js s ++ ms = order_commit js new ms s is (grow_longer js new grow) k.upto in
     record {
       batches = k.batches ++ os ∷ [];
       taken = all_later 0 js new s.sources (s.commits ++ ends ∷ []) (grow_longer js new grow) (all_more js s.sources s.commits k.taken);
       upto = all_upto_later js new (s.commits ++ ends ∷ []) s.sources (grow_longer js new grow) (all_upto_more js s.commits s.sources ends (upto_ends js s.sources) k.upto);
+      lines = all_lines_later js new (s.commits ++ ends ∷ []) s.sources (grow_longer js new grow) (all_lines_more js s.commits s.sources ends (end_lines js s.sources whole) k.lines);
       shape = all_shaped_more s.commits s.sources ends (shaped_ends js s.sources) k.shape;
       store = ap (λ (state : _). folded s.app state ms) k.store ∙ sym (folded_two s.app [] (read_order js s) ms) ∙ ap (λ (xs : List Message). folded s.app [] xs) (sym order);
       puts = joined_more k.batches os
@@ -174,7 +177,7 @@ kept_commit js ms s is whole lawful room k =
           ∙ ap (λ (state : _). emitted s.app [] (read_order js s) ++ emitted s.app state ms) k.store
           ∙ sym (put_out_two s.app [] (read_order js s) ms)
           ∙ ap (λ (xs : List Message). emitted s.app [] xs) (sym order);
-      outputs = holds_written s.outputs s.producer (length s.outputs) 0 s.clock k.batches os js k.clock w.1 w.0 whole lawful.distinct lawful.present k.outputs;
+      outputs = holds_written (attempt_of s) s.outputs s.producer (length s.outputs) 0 s.clock k.batches os js k.clock w.1 w.0 whole lawful.distinct lawful.present k.outputs;
       clock = ap (λ (n : ℕ). n + length os + 1) k.clock ∙ sym (clock_more 0 k.batches os);
     }
 
@@ -188,6 +191,7 @@ kept_foreign js new s whole foreign k =
       batches = k.batches;
       taken = all_later 0 js new s.sources s.commits (grow_longer js new grow) k.taken;
       upto = all_upto_later js new s.commits s.sources (grow_longer js new grow) k.upto;
+      lines = all_lines_later js new s.commits s.sources (grow_longer js new grow) k.lines;
       shape = k.shape;
       store = k.store ∙ ap (λ (xs : List Message). folded s.app [] xs) (sym order);
       puts = k.puts ∙ ap (λ (xs : List Message). emitted s.app [] xs) (sym order);

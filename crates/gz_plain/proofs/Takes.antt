@@ -8,8 +8,8 @@ use Rattle.gz_frame.specs.Release.{Release}
 use Rattle.gz_sequencer.specs.Committed.{released_in}
 use Rattle.gz_promise.specs.Parts.{part, read_of, last_from}
 use Rattle.gz_promise.specs.Parts.{NeverFall}
-use Rattle.gz_plain.specs.Journals.{Journal}
-use Rattle.gz_plain.specs.Sources.{Source, end_of, committed, froms_of, ends_of, all_committed, parts, order_of, last_of}
+use Rattle.gz_promise.specs.Journals.{Journal}
+use Rattle.gz_promise.specs.Sources.{Source, end_of, committed, froms_of, ends_of, all_committed, parts, order_of, last_of}
 use Rattle.gz_plain.specs.Running.{Upto, AllUpto}
 use Rattle.gz_promise.specs.Promise.{offset_at}
 use Rattle.gz_plain.proofs.Parts.{Within, within_two, within_wider, part_inside, part_before, part_after, part_two, order_same, order_more, last_more, never_fall_more, last_above, messages_two}

@@ -38,10 +38,6 @@ pub rise_lower : (p : List ℕ) (down low high : ℕ) (ms : List Message) → do
 rise_lower p down low high [] w r = omega arith
 rise_lower p down low high (m ∷ ms) w r = (r.0, r.1, omega (arith, r.2), r.3)
 
-pub rise_upto : (p : List ℕ) (low high : ℕ) (ms : List Message) → Rise p low high ms → low ≤ high
-rise_upto p low high [] r = r
-rise_upto p low high (m ∷ ms) r = omega (arith, r.2, rise_upto p m.clock high ms r.3)
-
 pub lines_rise : (p : List ℕ) (last : ℕ) (os : List Output) → Rise p last (last + length os) (lines_from p last os)
 lines_rise p last [] = omega arith
 lines_rise p last (o ∷ os) =

@@ -6,6 +6,7 @@ use Rattle.std.proofs.lemmas.List.Elements.{filter-append}
 use Rattle.std.proofs.lemmas.List.Concat.{flat_map-append}
 use Rattle.std.proofs.lemmas.Slice.Eq.{bytes_eq-Decides}
 use Rattle.std.specs.Str.{bytes_eq}
+use Rattle.gz_label.specs.declared.entry.Attempt.{Attempt}
 use Rattle.gz_frame.specs.Messages.{Message}
 use Rattle.gz_frame.specs.Release.{of_producer}
 use Rattle.gz_frame.specs.Text.{Placed, messages_of, is_whole}
@@ -14,7 +15,8 @@ use Rattle.gz_app.specs.Applications.{Output}
 use Rattle.gz_plain.specs.Plain.{lines_from, ack_at}
 use Rattle.gz_promise.specs.Outputs.{outputs_in}
 use Rattle.gz_sequencer.specs.Committed.{messages_alone}
-use Rattle.gz_plain.specs.Journals.{Journal, text_of, is_journal, appended, AreWhole}
+use Rattle.gz_promise.specs.Journals.{Journal, text_in, text_of, is_journal, with_bytes, appended, AreWhole}
+use Rattle.gz_promise.proofs.Entries.{text_with_bytes}
 use Rattle.gz_plain.specs.Shards.{lines_to, closed, text_of_lines, written_to}
 use Rattle.gz_promise.specs.Outputs.{choice}
 use Rattle.gz_promise.specs.Promise.{AcceptAll}
@@ -36,40 +38,40 @@ both_names a b c ab ac apart =
     let test : bytes_eq b c ≡ true = ap (λ (n : List ℕ). bytes_eq n c) (sym same) ∙ ac in
     cc
 
-other_first : (name bytes other : List ℕ) (j : Journal) (js : List Journal) (here there : Bool) → bytes_eq j.name name ≡ here → bytes_eq j.name other ≡ there → bytes_eq name other ≡ false
-    → text_of other (appended name bytes js) ≡ text_of other js
-    → text_of other (cond here (record j { text = j.text ++ bytes }) j ∷ appended name bytes js) ≡ cond there j.text (text_of other js)
-other_first name bytes other j js true true h t apart rest = absurd (both_names j.name name other h t apart)
-other_first name bytes other j js true false h t apart rest = rw t rest
-other_first name bytes other j js false true h t apart rest = rw t refl
-other_first name bytes other j js false false h t apart rest = rw t rest
+other_first : (attempt : Attempt) (name bytes other : List ℕ) (j : Journal) (js : List Journal) (here there : Bool) → bytes_eq j.name name ≡ here → bytes_eq j.name other ≡ there → bytes_eq name other ≡ false
+    → text_of other (appended attempt name bytes js) ≡ text_of other js
+    → text_of other (cond here (record j { entries = with_bytes attempt bytes j.entries }) j ∷ appended attempt name bytes js) ≡ cond there (text_in j) (text_of other js)
+other_first attempt name bytes other j js true true h t apart rest = absurd (both_names j.name name other h t apart)
+other_first attempt name bytes other j js true false h t apart rest = rw t rest
+other_first attempt name bytes other j js false true h t apart rest = rw t refl
+other_first attempt name bytes other j js false false h t apart rest = rw t rest
 
 -- the other journals stay
-pub other_stays : (name bytes other : List ℕ) (js : List Journal) → bytes_eq name other ≡ false → text_of other (appended name bytes js) ≡ text_of other js
-other_stays name bytes other [] apart = refl
-other_stays name bytes other (j ∷ js) apart =
-    other_first name bytes other j js (bytes_eq j.name name) (bytes_eq j.name other) refl refl apart (other_stays name bytes other js apart)
+pub other_stays : (attempt : Attempt) (name bytes other : List ℕ) (js : List Journal) → bytes_eq name other ≡ false → text_of other (appended attempt name bytes js) ≡ text_of other js
+other_stays attempt name bytes other [] apart = refl
+other_stays attempt name bytes other (j ∷ js) apart =
+    other_first attempt name bytes other j js (bytes_eq j.name name) (bytes_eq j.name other) refl refl apart (other_stays attempt name bytes other js apart)
 
-own_first : (name bytes : List ℕ) (j : Journal) (js : List Journal) (here : Bool) → bytes_eq j.name name ≡ here → (here || is_journal name js) ≡ true
-    → (is_journal name js ≡ true → text_of name (appended name bytes js) ≡ text_of name js ++ bytes)
-    → text_of name (cond here (record j { text = j.text ++ bytes }) j ∷ appended name bytes js) ≡ cond here j.text (text_of name js) ++ bytes
-own_first name bytes j js true h is rest = rw h refl
-own_first name bytes j js false h is rest = rw h (rest is)
+own_first : (attempt : Attempt) (name bytes : List ℕ) (j : Journal) (js : List Journal) (here : Bool) → bytes_eq j.name name ≡ here → (here || is_journal name js) ≡ true
+    → (is_journal name js ≡ true → text_of name (appended attempt name bytes js) ≡ text_of name js ++ bytes)
+    → text_of name (cond here (record j { entries = with_bytes attempt bytes j.entries }) j ∷ appended attempt name bytes js) ≡ cond here (text_in j) (text_of name js) ++ bytes
+own_first attempt name bytes j js true h is rest = rw h (text_with_bytes attempt bytes j.entries)
+own_first attempt name bytes j js false h is rest = rw h (rest is)
 
 -- the journal of the name has the bytes behind its text
-pub own_grows : (name bytes : List ℕ) (js : List Journal) → is_journal name js ≡ true → text_of name (appended name bytes js) ≡ text_of name js ++ bytes
-own_grows name bytes [] is = cc
-own_grows name bytes (j ∷ js) is = own_first name bytes j js (bytes_eq j.name name) refl is (own_grows name bytes js)
+pub own_grows : (attempt : Attempt) (name bytes : List ℕ) (js : List Journal) → is_journal name js ≡ true → text_of name (appended attempt name bytes js) ≡ text_of name js ++ bytes
+own_grows attempt name bytes [] is = cc
+own_grows attempt name bytes (j ∷ js) is = own_first attempt name bytes j js (bytes_eq j.name name) refl is (own_grows attempt name bytes js)
 
-stays_first : (name bytes other : List ℕ) (j : Journal) (here : Bool) → bytes_eq (cond here (record j { text = j.text ++ bytes }) j).name other ≡ bytes_eq j.name other
-stays_first name bytes other j true = refl
-stays_first name bytes other j false = refl
+stays_first : (attempt : Attempt) (name bytes other : List ℕ) (j : Journal) (here : Bool) → bytes_eq (cond here (record j { entries = with_bytes attempt bytes j.entries }) j).name other ≡ bytes_eq j.name other
+stays_first attempt name bytes other j true = refl
+stays_first attempt name bytes other j false = refl
 
 -- a journal stays one
-pub journal_stays : (name bytes other : List ℕ) (js : List Journal) → is_journal other (appended name bytes js) ≡ is_journal other js
-journal_stays name bytes other [] = refl
-journal_stays name bytes other (j ∷ js) =
-    rw (stays_first name bytes other j (bytes_eq j.name name), journal_stays name bytes other js) refl
+pub journal_stays : (attempt : Attempt) (name bytes other : List ℕ) (js : List Journal) → is_journal other (appended attempt name bytes js) ≡ is_journal other js
+journal_stays attempt name bytes other [] = refl
+journal_stays attempt name bytes other (j ∷ js) =
+    rw (stays_first attempt name bytes other j (bytes_eq j.name name), journal_stays attempt name bytes other js) refl
 
 -- ---- the outputs of a shard
 
@@ -84,18 +86,18 @@ abbrev pub Same : List Journal → List Journal → List (List ℕ) → Type 0
 Same js new [] = ⊤
 Same js new (n ∷ names) = (text_of n new ≡ text_of n js) × Same js new names
 
-same_apart : (name bytes : List ℕ) (js : List Journal) (names : List (List ℕ)) → Apart name names → Same js (appended name bytes js) names
-same_apart name bytes js [] a = tt
-same_apart name bytes js (n ∷ names) a = (other_stays name bytes n js a.0, same_apart name bytes js names a.2)
+same_apart : (attempt : Attempt) (name bytes : List ℕ) (js : List Journal) (names : List (List ℕ)) → Apart name names → Same js (appended attempt name bytes js) names
+same_apart attempt name bytes js [] a = tt
+same_apart attempt name bytes js (n ∷ names) a = (other_stays attempt name bytes n js a.0, same_apart attempt name bytes js names a.2)
 
 holds_same : (js new : List Journal) (p : List ℕ) (count place : ℕ) (names : List (List ℕ)) (oss : List (List Output)) → Same js new names → Holds js p count place names oss → Holds new p count place names oss
 holds_same js new p count place [] oss s h = tt
 holds_same js new p count place (n ∷ names) oss s h =
     (ap (λ (t : List ℕ). of_producer p (messages_alone (messages_of 0 t))) s.0 ∙ h.0, holds_same js new p count (place + 1) names oss s.1 h.1)
 
-pub present_stays : (name bytes : List ℕ) (js : List Journal) (names : List (List ℕ)) → ArePresent names js → ArePresent names (appended name bytes js)
-present_stays name bytes js [] a = tt
-present_stays name bytes js (n ∷ names) a = (journal_stays name bytes n js ∙ a.0, present_stays name bytes js names a.1)
+pub present_stays : (attempt : Attempt) (name bytes : List ℕ) (js : List Journal) (names : List (List ℕ)) → ArePresent names js → ArePresent names (appended attempt name bytes js)
+present_stays attempt name bytes js [] a = tt
+present_stays attempt name bytes js (n ∷ names) a = (journal_stays attempt name bytes n js ∙ a.0, present_stays attempt name bytes js names a.1)
 
 -- ---- what a commit writes
 
@@ -108,29 +110,29 @@ bytes_whole : (count place : ℕ) (lines : List Message) (ack : Message) → IsL
 bytes_whole count place lines ack a e =
     lines_whole (closed ack (lines_to count place lines)) (closed_each IsLine ack (lines_to count place lines) a (each_filter (λ m. choice count m.key == place) IsLine lines e))
 
-pub grow_written : (count place : ℕ) (lines : List Message) (ack : Message) (names : List (List ℕ)) (js : List Journal) → IsLine ack → Each IsLine lines
-    → Grow js (written_to count place lines ack names js)
-grow_written count place lines ack [] js a e = grow_none js
-grow_written count place lines ack (n ∷ names) js a e =
+pub grow_written : (attempt : Attempt) (count place : ℕ) (lines : List Message) (ack : Message) (names : List (List ℕ)) (js : List Journal) → IsLine ack → Each IsLine lines
+    → Grow js (written_to attempt count place lines ack names js)
+grow_written attempt count place lines ack [] js a e = grow_none js
+grow_written attempt count place lines ack (n ∷ names) js a e =
     let bytes : List ℕ = text_of_lines (closed ack (lines_to count place lines)) in
-    grow_two js (appended n bytes js) (written_to count (place + 1) lines ack names (appended n bytes js))
-    (grow_appended n bytes js (bytes_whole count place lines ack a e))
-    (grow_written count (place + 1) lines ack names (appended n bytes js) a e)
+    grow_two js (appended attempt n bytes js) (written_to attempt count (place + 1) lines ack names (appended attempt n bytes js))
+    (grow_appended attempt n bytes js (bytes_whole count place lines ack a e))
+    (grow_written attempt count (place + 1) lines ack names (appended attempt n bytes js) a e)
 
 -- journals that are none of the outputs stay
-pub others_stay : (count place : ℕ) (lines : List Message) (ack : Message) (names : List (List ℕ)) (js : List Journal) (other : List ℕ) → Apart other names
-    → text_of other (written_to count place lines ack names js) ≡ text_of other js
-others_stay count place lines ack [] js other a = refl
-others_stay count place lines ack (n ∷ names) js other a =
+pub others_stay : (attempt : Attempt) (count place : ℕ) (lines : List Message) (ack : Message) (names : List (List ℕ)) (js : List Journal) (other : List ℕ) → Apart other names
+    → text_of other (written_to attempt count place lines ack names js) ≡ text_of other js
+others_stay attempt count place lines ack [] js other a = refl
+others_stay attempt count place lines ack (n ∷ names) js other a =
     let bytes : List ℕ = text_of_lines (closed ack (lines_to count place lines)) in
-    others_stay count (place + 1) lines ack names (appended n bytes js) other a.2 ∙ other_stays n bytes other js a.1
+    others_stay attempt count (place + 1) lines ack names (appended attempt n bytes js) other a.2 ∙ other_stays attempt n bytes other js a.1
 
-pub present_written : (count place : ℕ) (lines : List Message) (ack : Message) (names : List (List ℕ)) (js : List Journal) (others : List (List ℕ)) → ArePresent others js
-    → ArePresent others (written_to count place lines ack names js)
-present_written count place lines ack [] js others a = a
-present_written count place lines ack (n ∷ names) js others a =
+pub present_written : (attempt : Attempt) (count place : ℕ) (lines : List Message) (ack : Message) (names : List (List ℕ)) (js : List Journal) (others : List (List ℕ)) → ArePresent others js
+    → ArePresent others (written_to attempt count place lines ack names js)
+present_written attempt count place lines ack [] js others a = a
+present_written attempt count place lines ack (n ∷ names) js others a =
     let bytes : List ℕ = text_of_lines (closed ack (lines_to count place lines)) in
-    present_written count (place + 1) lines ack names (appended n bytes js) others (present_stays n bytes js others a)
+    present_written attempt count (place + 1) lines ack names (appended attempt n bytes js) others (present_stays attempt n bytes js others a)
 
 -- the producer's messages in a text with these lines behind it
 of_grown : (p : List ℕ) (text : List ℕ) (ms : List Message) → is_whole text ≡ true → Each IsLine ms → AllOf p ms
@@ -148,25 +150,25 @@ lines_all_of p last [] = tt
 lines_all_of p last (o ∷ os) = (same_bytes p, lines_all_of p (last + 1) os)
 
 -- after one more commit, each output has one more transaction
-pub holds_written : (names : List (List ℕ)) (p : List ℕ) (count place last : ℕ) (oss : List (List Output)) (os : List Output) (js : List Journal)
+pub holds_written : (attempt : Attempt) (names : List (List ℕ)) (p : List ℕ) (count place last : ℕ) (oss : List (List Output)) (os : List Output) (js : List Journal)
     → last ≡ clock_after 0 oss → IsLine (ack_at p (last + length os + 1)) → Each IsLine (lines_from p last os)
     → AreWhole js → Distinct names → ArePresent names js → Holds js p count place names oss
-    → Holds (written_to count place (lines_from p last os) (ack_at p (last + length os + 1)) names js) p count place names (oss ++ os ∷ [])
-holds_written [] p count place last oss os js clock a e whole apart present h = tt
-holds_written (n ∷ names) p count place last oss os js clock a e whole apart present h =
+    → Holds (written_to attempt count place (lines_from p last os) (ack_at p (last + length os + 1)) names js) p count place names (oss ++ os ∷ [])
+holds_written attempt [] p count place last oss os js clock a e whole apart present h = tt
+holds_written attempt (n ∷ names) p count place last oss os js clock a e whole apart present h =
     let lines : List Message = lines_from p last os in
     let ack : Message = ack_at p (last + length os + 1) in
     let mine : List Message = lines_to count place lines in
     let bytes : List ℕ = text_of_lines (closed ack mine) in
-    let first : List Journal = appended n bytes js in
-    let new : List Journal = written_to count (place + 1) lines ack names first in
+    let first : List Journal = appended attempt n bytes js in
+    let new : List Journal = written_to attempt count (place + 1) lines ack names first in
     let text : text_of n new ≡ text_of n js ++ bytes =
-    others_stay count (place + 1) lines ack names first n apart.0 ∙ own_grows n bytes js present.0 in
+    others_stay attempt count (place + 1) lines ack names first n apart.0 ∙ own_grows attempt n bytes js present.0 in
     let each : Each IsLine (closed ack mine) = closed_each IsLine ack mine a (each_filter (λ m. choice count m.key == place) IsLine lines e) in
     let all : AllOf p (closed ack mine) =
     closed_each (λ m. bytes_eq m.producer p ≡ true) ack mine (same_bytes p) (each_filter (λ m. choice count m.key == place) (λ m. bytes_eq m.producer p ≡ true) lines (lines_all_of p last os)) in
     let rest : Holds first p count (place + 1) names oss =
-    holds_same js first p count (place + 1) names oss (same_apart n bytes js names apart.0) h.1 in
+    holds_same js first p count (place + 1) names oss (same_apart attempt n bytes js names apart.0) h.1 in
     let one : List written.Transaction = as_transaction (lines_to count place (lines_from p (clock_after 0 oss) os)) (ack_at p (clock_after 0 oss + length os + 1)) in (
       ap (λ (t : List ℕ). of_producer p (messages_alone (messages_of 0 t))) text
           ∙ of_grown p (text_of n js) (closed ack mine) (whole n) each all
@@ -175,8 +177,8 @@ holds_written (n ∷ names) p count place last oss os js clock a e whole apart p
           ∙ ap (λ (ms : List Message). written.text_of (transactions_to p count place 0 oss) ++ ms) (sym (text_one (lines_to count place (lines_from p (clock_after 0 oss) os)) (ack_at p (clock_after 0 oss + length os + 1))))
           ∙ sym (text_two (transactions_to p count place 0 oss) one)
           ∙ ap (λ (ts : List written.Transaction). written.text_of ts) (sym (transactions_more p count place 0 oss os)),
-      holds_written names p count (place + 1) last oss os first clock a e
-          (grow_whole js first (grow_appended n bytes js (bytes_whole count place lines ack a e)) whole) apart.1 (present_stays n bytes js names present.1) rest,
+      holds_written attempt names p count (place + 1) last oss os first clock a e
+          (grow_whole js first (grow_appended attempt n bytes js (bytes_whole count place lines ack a e)) whole) apart.1 (present_stays attempt n bytes js names present.1) rest,
     )
 
 -- ---- what others write
@@ -261,34 +263,35 @@ foreign_lines p text ms each none = record {
   none = ap (λ (xs : List Message). of_producer p xs) (lines_read (length text) ms each) ∙ none;
 }
 
-foreign_first : (p name other : List ℕ) (ms : List Message) (j : Journal) (js : List Journal) (here there : Bool) → bytes_eq j.name other ≡ there → Each IsLine ms → of_producer p ms ≡ []
-    → Foreign p (text_of other js) (text_of other (appended name (text_of_lines ms) js))
-    → Foreign p (cond there j.text (text_of other js)) (text_of other (cond here (record j { text = j.text ++ text_of_lines ms }) j ∷ appended name (text_of_lines ms) js))
-foreign_first p name other ms j js true true is each none rest = rw is (foreign_lines p j.text ms each none)
-foreign_first p name other ms j js false true is each none rest = rw is (foreign_none p j.text)
-foreign_first p name other ms j js true false is each none rest = rw is rest
-foreign_first p name other ms j js false false is each none rest = rw is rest
+foreign_first : (attempt : Attempt) (p name other : List ℕ) (ms : List Message) (j : Journal) (js : List Journal) (here there : Bool) → bytes_eq j.name other ≡ there → Each IsLine ms → of_producer p ms ≡ []
+    → Foreign p (text_of other js) (text_of other (appended attempt name (text_of_lines ms) js))
+    → Foreign p (cond there (text_in j) (text_of other js)) (text_of other (cond here (record j { entries = with_bytes attempt (text_of_lines ms) j.entries }) j ∷ appended attempt name (text_of_lines ms) js))
+foreign_first attempt p name other ms j js true true is each none rest =
+    rw is (subst (λ (t : List ℕ). Foreign p (text_in j) t) (sym (text_with_bytes attempt (text_of_lines ms) j.entries)) (foreign_lines p (text_in j) ms each none))
+foreign_first attempt p name other ms j js false true is each none rest = rw is (foreign_none p (text_in j))
+foreign_first attempt p name other ms j js true false is each none rest = rw is rest
+foreign_first attempt p name other ms j js false false is each none rest = rw is rest
 
-pub foreign_appended : (p name : List ℕ) (ms : List Message) (js : List Journal) → Each IsLine ms → of_producer p ms ≡ [] → AllForeign p js (appended name (text_of_lines ms) js)
-foreign_appended p name ms [] each none other = foreign_none p []
-foreign_appended p name ms (j ∷ js) each none other =
-    foreign_first p name other ms j js (bytes_eq j.name name) (bytes_eq j.name other) refl each none (foreign_appended p name ms js each none other)
+pub foreign_appended : (attempt : Attempt) (p name : List ℕ) (ms : List Message) (js : List Journal) → Each IsLine ms → of_producer p ms ≡ [] → AllForeign p js (appended attempt name (text_of_lines ms) js)
+foreign_appended attempt p name ms [] each none other = foreign_none p []
+foreign_appended attempt p name ms (j ∷ js) each none other =
+    foreign_first attempt p name other ms j js (bytes_eq j.name name) (bytes_eq j.name other) refl each none (foreign_appended attempt p name ms js each none other)
 
 -- what one producer writes is foreign to another one
-pub foreign_written : (p q : List ℕ) (count place last : ℕ) (os : List Output) (names : List (List ℕ)) (js : List Journal) → bytes_eq q p ≡ false
+pub foreign_written : (attempt : Attempt) (p q : List ℕ) (count place last : ℕ) (os : List Output) (names : List (List ℕ)) (js : List Journal) → bytes_eq q p ≡ false
     → IsLine (ack_at q (last + length os + 1)) → Each IsLine (lines_from q last os)
-    → AllForeign p js (written_to count place (lines_from q last os) (ack_at q (last + length os + 1)) names js)
-foreign_written p q count place last os [] js other a e = all_foreign_none p js
-foreign_written p q count place last os (n ∷ names) js other a e =
+    → AllForeign p js (written_to attempt count place (lines_from q last os) (ack_at q (last + length os + 1)) names js)
+foreign_written attempt p q count place last os [] js other a e = all_foreign_none p js
+foreign_written attempt p q count place last os (n ∷ names) js other a e =
     let lines : List Message = lines_from q last os in
     let ack : Message = ack_at q (last + length os + 1) in
     let mine : List Message = closed ack (lines_to count place lines) in
     let each : Each IsLine mine = closed_each IsLine ack (lines_to count place lines) a (each_filter (λ m. choice count m.key == place) IsLine lines e) in
     let all : AllOf q mine =
     closed_each (λ m. bytes_eq m.producer q ≡ true) ack (lines_to count place lines) (same_bytes q) (each_filter (λ m. choice count m.key == place) (λ m. bytes_eq m.producer q ≡ true) lines (lines_all_of q last os)) in
-    all_foreign_two p js (appended n (text_of_lines mine) js) (written_to count (place + 1) lines ack names (appended n (text_of_lines mine) js))
-    (foreign_appended p n mine js each (of_none p q mine other all))
-    (foreign_written p q count (place + 1) last os names (appended n (text_of_lines mine) js) other a e)
+    all_foreign_two p js (appended attempt n (text_of_lines mine) js) (written_to attempt count (place + 1) lines ack names (appended attempt n (text_of_lines mine) js))
+    (foreign_appended attempt p n mine js each (of_none p q mine other all))
+    (foreign_written attempt p q count (place + 1) last os names (appended attempt n (text_of_lines mine) js) other a e)
 
 pub holds_foreign : (js new : List Journal) (p : List ℕ) (count place : ℕ) (names : List (List ℕ)) (oss : List (List Output)) → AreWhole js → AllForeign p js new → Holds js p count place names oss → Holds new p count place names oss
 holds_foreign js new p count place [] oss whole f h = tt

@@ -7,12 +7,12 @@ use Rattle.gz_plain.specs.declared.cluster.Source as named
 use Rattle.gz_plain.specs.declared.reader.Reader.{Reader}
 use Rattle.gz_plain.specs.declared.shard.Shard.{Shard}
 use Rattle.gz_plain.specs.declared.writer.Writer.{Writer}
-use Rattle.gz_plain.specs.Journals.{Journal, place_of}
+use Rattle.gz_promise.specs.Journals.{Journal, place_of}
 use Rattle.gz_plain.specs.Definitions.{Definition, resumes_at}
 use Rattle.gz_plain.specs.Running.{journals_of}
 use Rattle.gz_plain.specs.Runs.{ArePresent}
 use Rattle.gz_plain.specs.Shards.{Mark}
-use Rattle.gz_plain.specs.Sources.{Source, all_committed, froms_of, parts, text_from}
+use Rattle.gz_promise.specs.Sources.{Source, all_committed, froms_of, parts, text_from}
 
 abbrev pub source_named : named.Source → Source
 source_named s = record { journal = s.journal; from = s.from }

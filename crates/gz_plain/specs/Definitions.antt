@@ -4,9 +4,9 @@ use Rattle.std.specs.Str.{bytes_eq}
 use Rattle.gz_uuid.specs.Producer.{shard_octets}
 use Rattle.gz_app.specs.declared.app.AppKind.{AppKind}
 use Rattle.gz_app.specs.declared.app.AppKind.TheVariants.{Count, Relay, Latest}
-use Rattle.gz_plain.specs.Journals.{Journal}
+use Rattle.gz_promise.specs.Journals.{Journal}
 use Rattle.gz_plain.specs.Shards.{Mark, Past, Shard, last_offsets}
-use Rattle.gz_plain.specs.Sources.{Source, end_of}
+use Rattle.gz_promise.specs.Sources.{Source, end_of}
 
 -- what a shard is said to be
 pub record Definition : Type 0 where

@@ -1,10 +1,8 @@
 pub mod Plain
-pub mod Journals
-pub mod Sources
 pub mod Shards
 pub mod Definitions
 pub mod Promise
-pub mod Order
+pub mod Rests
 pub mod Runs
 pub mod Readers
 pub mod Places

@@ -1,7 +1,8 @@
 -- Journals by their places, and the texts that a commit puts behind them.
 use Rattle.std.specs.Prelude.{◌≡◌, ℕ, ◌+◌, List, [], ◌∷◌, ◌++◌, map, ⊤}
+use Rattle.gz_label.specs.declared.entry.Attempt.{Attempt}
 use Rattle.gz_frame.specs.Messages.{Message}
-use Rattle.gz_plain.specs.Journals.{Journal, place_of, appended_at}
+use Rattle.gz_promise.specs.Journals.{Journal, place_of, appended_at}
 use Rattle.gz_plain.specs.Shards.{lines_to, text_of_lines}
 use Rattle.gz_plain.specs.declared.writer.Writer.{Writer}
 
@@ -28,8 +29,8 @@ abbrev pub ended : List ℕ → List ℕ → List ℕ
 ended line [] = []
 ended line (b ∷ bs) = (b ∷ bs) ++ line
 
--- the texts go behind the journals at these places
-abbrev pub all_appended : List ℕ → List (List ℕ) → List Journal → List Journal
-all_appended [] texts js = js
-all_appended (i ∷ places) [] js = js
-all_appended (i ∷ places) (text ∷ texts) js = all_appended places texts (appended_at i text js)
+-- the texts go behind the journals at these places, each as an entry of this attempt
+abbrev pub all_appended : Attempt → List ℕ → List (List ℕ) → List Journal → List Journal
+all_appended attempt [] texts js = js
+all_appended attempt (i ∷ places) [] js = js
+all_appended attempt (i ∷ places) (text ∷ texts) js = all_appended attempt places texts (appended_at attempt i text js)

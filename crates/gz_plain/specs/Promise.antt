@@ -7,11 +7,12 @@ use Rattle.gz_app.specs.States.{State}
 use Rattle.gz_app.specs.declared.app.AppKind.{AppKind}
 use Rattle.gz_promise.specs.Accounts.{Account, Commit, Stream}
 use Rattle.gz_promise.specs.Applications.{folded}
+use Rattle.gz_promise.specs.Clients.{ServesUsers}
 use Rattle.gz_promise.specs.Outputs.{accepted_of}
 use Rattle.gz_promise.specs.Promise.{Delivers}
-use Rattle.gz_plain.specs.Journals.{Journal, text_of}
+use Rattle.gz_promise.specs.Journals.{Journal, text_of}
 use Rattle.gz_plain.specs.Shards.{Past, Shard}
-use Rattle.gz_plain.specs.Sources.{Source, all_committed, committed, froms_of, parts}
+use Rattle.gz_promise.specs.Sources.{AllEndLines, Source, all_committed, committed, froms_of, parts}
 
 -- its sources
 abbrev pub streams_of : List Journal → List Source → List Stream
@@ -49,3 +50,17 @@ IfKept (Some past) said = ⊤
 abbrev pub AllExactlyOnce : List Journal → List Shard → Type 0
 AllExactlyOnce js [] = ⊤
 AllExactlyOnce js (s ∷ ss) = IfKept s.past (Delivers (account_of js s)) × AllExactlyOnce js ss
+
+-- and there is one read order of which that and what its users read is so
+pub record Serves (js : List Journal) (s : Shard) : Type 0 where
+  pub delivers : Delivers (account_of js s)
+  pub users : ServesUsers (account_of js s) delivers.once
+
+abbrev pub AllServe : List Journal → List Shard → Type 0
+AllServe js [] = ⊤
+AllServe js (s ∷ ss) = IfKept s.past (Serves js s) × AllServe js ss
+
+-- each offset that such a shard commits is the end of a whole line
+abbrev pub AllCommitLines : List Journal → List Shard → Type 0
+AllCommitLines js [] = ⊤
+AllCommitLines js (s ∷ ss) = IfKept s.past (AllEndLines js s.commits s.sources) × AllCommitLines js ss

@@ -3,7 +3,7 @@ use Rattle.std.specs.Prelude.{◌≡◌, ◌≤◌, ◌<◌, ◌+◌, ◌^◌, �
 use Rattle.gz_frame.specs.Messages.{Message}
 use Rattle.gz_sequencer.specs.Committed.{committed}
 use Rattle.gz_sequencer.specs.Machine.{Point, started, fed, point_of}
-use Rattle.gz_plain.specs.Journals.{Journal, text_of, place_of}
+use Rattle.gz_promise.specs.Journals.{Journal, text_of, place_of}
 use Rattle.gz_promise.specs.Parts.{part}
 use Rattle.gz_plain.specs.declared.reader.Next.{Next}
 use Rattle.gz_plain.specs.declared.reader.Reader.{Reader}

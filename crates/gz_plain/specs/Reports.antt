@@ -4,7 +4,7 @@ use Rattle.serde_json.specs.Written.{compact_text}
 use Rattle.gz_frame.specs.Messages.{Message}
 use Rattle.gz_app.specs.States.{state_data}
 use Rattle.gz_sequencer.specs.Committed.{committed, released_in}
-use Rattle.gz_plain.specs.Journals.{Journal}
+use Rattle.gz_promise.specs.Journals.{Journal}
 use Rattle.gz_promise.specs.Promise.{ReadsAll}
 use Rattle.gz_plain.specs.Promise.{account_of, IfKept}
 use Rattle.gz_plain.specs.Shards.{Shard, has_room, read_order, untaken}

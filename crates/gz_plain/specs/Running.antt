@@ -4,14 +4,14 @@ use Rattle.gz_frame.specs.Messages.{Message}
 use Rattle.gz_frame.specs.Release.{Release}
 use Rattle.gz_sequencer.specs.Committed.{committed}
 use Rattle.gz_promise.specs.Applications.{folded, emitted}
-use Rattle.gz_plain.specs.Journals.{Journal}
+use Rattle.gz_promise.specs.Journals.{Journal}
 use Rattle.gz_plain.specs.Places.{ArePlaced}
 use Rattle.gz_plain.specs.Readers.{AreRead, accepted_all, end_of_reader, reading_all, text_behind, text_for}
 use Rattle.gz_plain.specs.Runs.{ArePresent}
 use Rattle.gz_plain.specs.Seen.{shard_of}
 use Rattle.gz_plain.specs.Shards as shards
 use Rattle.gz_plain.specs.Shards.{read_order, last_offsets}
-use Rattle.gz_plain.specs.Sources.{Source, end_of}
+use Rattle.gz_promise.specs.Sources.{Source, end_of}
 use Rattle.gz_plain.specs.declared.reader.Reader.{Reader}
 use Rattle.gz_plain.specs.declared.shard.Shard.{Shard}
 

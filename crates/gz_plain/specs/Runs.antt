@@ -1,12 +1,13 @@
 -- What may happen to journals and shards, one thing after another.
 use Rattle.std.specs.Prelude.{◌≡◌, ℕ, ◌+◌, ◌-◌, ◌<◌, ◌^◌, List, [], ◌∷◌, ◌++◌, length, map, Bool, true, false, if◌then◌else◌, Some, ⊤}
 use Rattle.std.specs.Str.{bytes_eq}
+use Rattle.gz_label.specs.declared.entry.Attempt.{Attempt}
 use Rattle.gz_uuid.specs.Producer.{client_octets}
 use Rattle.gz_frame.specs.Messages.{Message}
 use Rattle.gz_frame.specs.Line.{line_of}
 use Rattle.gz_frame.specs.Text.{message_of}
 use Rattle.gz_plain.specs.Definitions.{Definition, redefined}
-use Rattle.gz_plain.specs.Journals.{Journal, is_journal, appended}
+use Rattle.gz_promise.specs.Journals.{Journal, is_journal, appended}
 use Rattle.gz_promise.specs.Names.{Distinct}
 use Rattle.gz_plain.specs.Shards.{Shard, World, settled, text_of_lines}
 
@@ -17,7 +18,7 @@ abbrev pub nothing : World
 nothing = record { journals = []; shards = [] }
 
 abbrev pub all_empty : List (List ℕ) → List Journal
-all_empty names = map (λ name. record { name = name; text = [] }) names
+all_empty names = map (λ name. record { name = name; entries = [] }) names
 
 -- empty journals of these names come behind the others
 abbrev pub with_journals : List (List ℕ) → List Journal → List Journal
@@ -49,14 +50,14 @@ continues (d ∷ ds) (s ∷ ss) = if bytes_eq s.id d.id then continues ds ss els
 
 -- ---- what happens
 
--- messages land in the journal of a name, everything that is due happens, or journals and shards are changed
+-- messages land in the journal of a name, as an entry of an attempt, everything that is due happens, or journals and shards are changed
 pub data Event : Type 0 where
-  lands : List ℕ → List Message → Event
+  lands : Attempt → List ℕ → List Message → Event
   settles : Event
   changes : List (List ℕ) → List Definition → Event
 
 abbrev pub after_event : Event → World → World
-after_event (lands name ms) w = record w { journals = appended name (text_of_lines ms) w.journals }
+after_event (lands attempt name ms) w = record w { journals = appended attempt name (text_of_lines ms) w.journals }
 after_event settles w = settled w
 after_event (changes names ds) w = changed names ds w
 
@@ -76,7 +77,7 @@ AreClients (m ∷ ms) = IsLine m × ((number : ℕ) × (m.producer ≡ client_oc
 -- All that lands is messages of clients; shards emit to journals that are there, none is lost, and there is a
 -- number for each.
 abbrev pub MayHappen : Event → World → Type 0
-MayHappen (lands name ms) w = AreClients ms
+MayHappen (lands attempt name ms) w = AreClients ms
 MayHappen settles w = ⊤
 MayHappen (changes names ds) w =
     AreDefined (with_journals names w.journals) ds × (continues ds w.shards ≡ true) × (length ds < 2 ^ 40 - 1)

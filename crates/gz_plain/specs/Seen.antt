@@ -4,7 +4,7 @@ use Rattle.gz_plain.specs.declared.reader.Reader.{Reader}
 use Rattle.gz_plain.specs.declared.shard.Shard.{Shard}
 use Rattle.gz_plain.specs.declared.writer.Writer.{Writer}
 use Rattle.gz_plain.specs.Shards as shards
-use Rattle.gz_plain.specs.Sources.{Source}
+use Rattle.gz_promise.specs.Sources.{Source}
 
 abbrev pub source_of : Reader → Source
 source_of r = record { journal = r.journal; from = r.from }

@@ -1,15 +1,16 @@
 -- Shards over the texts of journals, and what a step and a settle make of them.
 use Rattle.std.specs.Prelude.{ℕ, zero, suc, ◌+◌, ◌%◌, ◌==◌, List, [], ◌∷◌, ◌++◌, length, filter, flat_map, sum, nat_lt, ◌^◌, Bool, if◌then◌else◌, Option}
+use Rattle.gz_label.specs.declared.entry.Attempt.{Attempt}
 use Rattle.gz_frame.specs.Messages.{Message}
 use Rattle.gz_frame.specs.Line.{line_of}
 use Rattle.gz_app.specs.Applications.{Output}
 use Rattle.gz_promise.specs.Applications.{folded, emitted}
 use Rattle.gz_app.specs.States.{State}
 use Rattle.gz_app.specs.declared.app.AppKind.{AppKind}
-use Rattle.gz_plain.specs.Journals.{Journal, appended}
+use Rattle.gz_promise.specs.Journals.{Journal, appended}
 use Rattle.gz_promise.specs.Outputs.{choice}
 use Rattle.gz_plain.specs.Plain.{lines_from, ack_at}
-use Rattle.gz_plain.specs.Sources.{Source, froms_of, ends_of, all_committed, parts, order_of, last_of}
+use Rattle.gz_promise.specs.Sources.{Source, froms_of, ends_of, all_committed, parts, order_of, last_of}
 
 -- the offset to which a shard has read a journal
 pub record Mark : Type 0 where
@@ -64,16 +65,20 @@ closed ack (m ∷ ms) = m ∷ ms ++ ack ∷ []
 abbrev pub text_of_lines : List Message → List ℕ
 text_of_lines ms = flat_map line_of ms
 
--- each output journal gets its lines, and the acknowledgement behind them
-abbrev pub written_to : ℕ → ℕ → List Message → Message → List (List ℕ) → List Journal → List Journal
-written_to count place lines ack [] js = js
-written_to count place lines ack (name ∷ names) js =
-    written_to count (place + 1) lines ack names (appended name (text_of_lines (closed ack (lines_to count place lines))) js)
+-- each output journal gets its lines, and the acknowledgement behind them, as one entry of this attempt
+abbrev pub written_to : Attempt → ℕ → ℕ → List Message → Message → List (List ℕ) → List Journal → List Journal
+written_to attempt count place lines ack [] js = js
+written_to attempt count place lines ack (name ∷ names) js =
+    written_to attempt count (place + 1) lines ack names (appended attempt name (text_of_lines (closed ack (lines_to count place lines))) js)
+
+-- the attempt of the shard's next commit: the shard's id, and the commit's number, from 1
+abbrev pub attempt_of : Shard → Attempt
+attempt_of s = record { node = s.id; req = length s.commits + 1 }
 
 -- the journals after a commit of a shard that puts these out
 abbrev pub journals_after : Shard → List Output → List Journal → List Journal
 journals_after s os js =
-    written_to (length s.outputs) 0 (lines_from s.producer s.clock os) (ack_at s.producer (s.clock + length os + 1)) s.outputs js
+    written_to (attempt_of s) (length s.outputs) 0 (lines_from s.producer s.clock os) (ack_at s.producer (s.clock + length os + 1)) s.outputs js
 
 -- ---- a step
 

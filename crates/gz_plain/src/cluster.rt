@@ -1,6 +1,7 @@
 //! Journals and the shards that read and write them.
 ghost use Rattle.std.specs.Prelude.{◌≡◌, ◌+◌, ◌<◌, ◌≤◌, ◌^◌, length, map, IfOk, OnOk, OnErr};
-ghost use Rattle.gz_plain.specs.Journals.{appended, place_of};
+ghost use Rattle.gz_journal.specs.JournalList.{plain};
+ghost use Rattle.gz_promise.specs.Journals.{answer_in, landing, place_of};
 ghost use Rattle.gz_plain.specs.Places.{names_of};
 ghost use Rattle.gz_plain.specs.Reports.{report_of};
 ghost use Rattle.gz_plain.specs.Runs.{changed, nothing, with_journals};
@@ -15,6 +16,7 @@ use crate::report::{ShardReport, report_all};
 use crate::settle::settle_all;
 use crate::shard::Shard;
 use gz_app::AppKind;
+use gz_journal::Landed;
 use gz_label::{Attempt, Blob, Name, NoMemory};
 use std::alloc::Global;
 use std::marker::Model;
@@ -39,7 +41,8 @@ pub struct Definition {
     pub is_disabled: bool,
 }
 
-/// Journals, and the shards that read and write them. Contracts see their texts, and the shards as the definitions have them.
+/// Journals, and the shards that read and write them. Contracts see the journals' entries, and the shards as the definitions
+/// have them.
 #[derive(Drop)]
 pub struct Cluster {
     journals: Journals,
@@ -113,17 +116,19 @@ impl Cluster {
         self.journals.place_of(name)
     }
 
-    /// Puts the bytes behind the text of the journal of this name, if there is one, as an entry of this attempt. After
-    /// NoMemory nothing has changed.
-    #[tactic(auto, using(crate::proofs::Places::appended_is, crate::proofs::Places::distinct_stay_at))]
-    pub fn append(&mut self, name: &[u8], attempt: Attempt, bytes: Blob) -> Result<(), NoMemory>
-        ensures ok { OnOk result
-            (self.new ≡ record self.old { journals = appended name.now bytes self.old.journals }) }
+    /// Appends the bytes to the journal of this name, if there is one, as one entry of this attempt, and gives the
+    /// journal's answer: they land, or it would end above 2^62. No bytes are no entry. Where there is no such journal,
+    /// the answer is that of an empty one. After NoMemory nothing has changed.
+    #[tactic(auto, using(crate::proofs::Landing::landing_is, crate::proofs::Landing::answer_is))]
+    pub fn append(&mut self, name: &[u8], attempt: Attempt, bytes: Blob) -> Result<Landed, NoMemory>
+        ensures answer { IfOk result
+            (λ landed. landed ≡ answer_in name.now (plain attempt bytes) self.old.journals) }
+        ensures ok { OnOk result (self.new ≡ record self.old { journals = landing attempt name.now bytes self.old.journals }) }
         ensures err { OnErr result (self.new ≡ self.old) }
     {
         let place = self.journals.place_of(name);
-        self.journals.append_at(place, attempt, bytes)?;
-        Ok(())
+        let landed = self.journals.append_at(place, attempt, bytes)?;
+        Ok(landed)
     }
 
     /// Everything that is due happens: the shards step in turn, again and again until nothing more is released. After

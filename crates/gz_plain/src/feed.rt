@@ -1,7 +1,7 @@
 //! Texts of journals, which sequencers are fed.
 ghost use Rattle.std.specs.Prelude.{◌≡◌, ◌≤◌, ◌-◌, length, take, drop, OnOk};
 ghost use Rattle.gz_sequencer.specs.Machine.{at, fed};
-ghost use Rattle.gz_plain.specs.Journals.{text_at};
+ghost use Rattle.gz_promise.specs.Journals.{text_at, text_in};
 
 use crate::journals::{Journal, Journals};
 use gz_label::NoMemory;
@@ -14,11 +14,11 @@ const MAX_PIECE: u64 = 262_144;
 /// matter.
 pub fn feed_journal(journal: &Journal, sequencer: &mut Sequencer, to: u64) -> Result<(), NoMemory>
     requires start { at sequencer.old ≤ to }
-    requires end { to ≤ length journal.now.text }
+    requires end { to ≤ length (text_in journal.now) }
     ensures { OnOk result
         (sequencer.new
         ≡ fed sequencer.old
-        (take (to - at sequencer.old) (drop (at sequencer.old) journal.now.text))) }
+        (take (to - at sequencer.old) (drop (at sequencer.old) (text_in journal.now)))) }
 {
     let _end = journal.end();
     let mut at = sequencer.at();

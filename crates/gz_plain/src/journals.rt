@@ -1,13 +1,14 @@
-//! Journals: texts that only grow.
+//! Journals: lists of entries that only grow.
 ghost use Rattle.std.specs.Prelude.{◌≡◌, ◌≤◌, ◌^◌, ◌++◌, ◌∷◌, [], length, take, drop, IfOk, OnOk, OnErr, MatchOption};
-ghost use Rattle.gz_plain.specs.Journals.{place_of, text_at, appended_at};
+ghost use Rattle.gz_journal.specs.JournalList.{registers_of, judged_of, plain};
+ghost use Rattle.gz_promise.specs.Journals.{text_in, entries_after, place_of, text_at, answer_at, landing_at};
 
-use gz_journal::JournalState;
-use gz_label::{Attempt, Blob, Name, NoMemory};
+use gz_journal::{JournalState, Landed};
+use gz_label::{Attempt, Blob, LabelSet, Name, NoMemory};
 use std::alloc::Global;
 use std::marker::Model;
 
-/// A journal: its name, and its text, of at most 2^62 bytes, which is kept as the entries that were appended. It has no
+/// A journal: its name, and the entries that were appended, whose text has at most 2^62 bytes. None of them sets
 /// registers.
 #[derive(Debug, Drop)]
 pub struct Journal {
@@ -17,12 +18,12 @@ pub struct Journal {
 
 impl Model for Journal {
     ghost use Rattle.std.specs.Prelude.{◌≡◌, ◌≤◌, ◌^◌, []};
-    ghost use Rattle.gz_journal.specs.JournalList.{end_of, registers_of, text_of};
-    ghost use Rattle.gz_plain.specs.Journals.{Journal as Seen};
+    ghost use Rattle.gz_journal.specs.JournalList.{end_of, registers_of};
+    ghost use Rattle.gz_promise.specs.Journals.{Journal as Seen};
 
     ghost Value = { Seen };
 
-    ghost view = { λ a. record { name = a.name; text = text_of a.state } };
+    ghost view = { λ a. record { name = a.name; entries = a.state } };
 
     ghost invariant = { λ a. (end_of a.state ≤ 2 ^ 62) × (registers_of a.state ≡ []) };
 }
@@ -30,7 +31,7 @@ impl Model for Journal {
 impl Journal {
     /// An empty journal of this name. It takes no memory.
     pub fn new(alloc: Global, name: Name) -> Journal
-        ensures { result ≡ record { name = name; text = [] } }
+        ensures { result ≡ record { name = name; entries = [] } }
     {
         Journal {
             name,
@@ -45,9 +46,16 @@ impl Journal {
         &self.name
     }
 
+    /// The registers after the last entry. It takes no memory.
+    pub fn registers(&self) -> &LabelSet
+        ensures { result.now ≡ registers_of self.now.entries }
+    {
+        self.state.registers()
+    }
+
     /// The length of the text, at most 2^62. It takes no memory.
     pub fn end(&self) -> u64
-        ensures value { result ≡ length self.now.text }
+        ensures value { result ≡ length (text_in self.now) }
         ensures short { result ≤ 2 ^ 62 }
     {
         self.state.end()
@@ -56,24 +64,23 @@ impl Journal {
     /// The text from the offset on, at most `limit` bytes of it, and none at or past the end. Time goes with these bytes,
     /// and with the logarithm of the number of entries.
     pub fn read_at(&self, offset: u64, limit: u64) -> Result<Blob, NoMemory>
-        ensures { IfOk result (λ bytes. bytes ≡ take limit (drop offset self.now.text)) }
+        ensures { IfOk result (λ bytes. bytes ≡ take limit (drop offset (text_in self.now))) }
     {
         let bytes = self.state.read_at(offset, limit)?;
         Ok(bytes)
     }
 
-    /// Puts the bytes behind the text, as one entry unless they are none. More than 2^62 bytes fit no memory. After
-    /// NoMemory nothing has changed.
-    #[tactic(auto, using(gz_journal::proofs::Plain::plain_text, gz_journal::proofs::Plain::plain_refused))]
-    pub fn append(&mut self, attempt: Attempt, bytes: Blob) -> Result<(), NoMemory>
-        ensures ok { OnOk result (self.new ≡ record self.old { text = self.old.text ++ bytes }) }
+    /// Appends the bytes as an entry of this attempt, unless they are none: they land, or the text would end above 2^62.
+    /// After NoMemory nothing has changed.
+    #[tactic(auto, using(gz_promise::proofs::Entries::lands_behind))]
+    pub fn append(&mut self, attempt: Attempt, bytes: Blob) -> Result<Landed, NoMemory>
+        ensures answer { IfOk result
+            (λ landed. landed ≡ (judged_of self.old.entries (plain attempt bytes)).landed) }
+        ensures ok { OnOk result (self.new ≡ record self.old { entries = entries_after attempt bytes self.old.entries }) }
         ensures err { OnErr result (self.new ≡ self.old) }
     {
         let landed = self.state.append(attempt, bytes)?;
-        if !landed.is_landed() {
-            return Err(NoMemory);
-        }
-        Ok(())
+        Ok(landed)
     }
 }
 
@@ -85,7 +92,7 @@ pub struct Journals {
 
 impl Model for Journals {
     ghost use Rattle.std.specs.Prelude.{List};
-    ghost use Rattle.gz_plain.specs.Journals.{Journal};
+    ghost use Rattle.gz_promise.specs.Journals.{Journal};
 
     ghost Value = { List Journal };
 
@@ -107,24 +114,36 @@ fn place_among(journals: &[Journal], name: &[u8]) -> usize
 #[tactic(auto, using(crate::proofs::Places::text_at_read, crate::proofs::Places::text_at_past))]
 fn journal_among(journals: &[Journal], place: usize) -> Option<&Journal>
     ensures { MatchOption result (text_at place journals.now ≡ [])
-        (λ journal. journal.now.text ≡ text_at place journals.now) }
+        (λ journal. text_in journal.now ≡ text_at place journals.now) }
 {
     journals.get(place)
 }
 
-/// Puts the bytes behind the text at this place, if there is one. After NoMemory nothing has changed.
-#[tactic(auto, using(crate::proofs::Places::appended_at_set, crate::proofs::Places::appended_at_past))]
+/// What an empty journal answers to an append of these bytes.
+fn answer_empty(alloc: Global, attempt: Attempt, bytes: Blob) -> Result<Landed, NoMemory>
+    ensures { IfOk result (λ landed. landed ≡ (judged_of [] (plain attempt bytes)).landed) }
+{
+    let mut empty = JournalState::new(alloc);
+    empty.append(attempt, bytes)
+}
+
+/// Appends the bytes to the journal at this place, if there is one, as an entry of this attempt; where there is none,
+/// the answer is that of an empty one. After NoMemory nothing has changed.
+#[tactic(auto, using(crate::proofs::Landing::landing_at_set, crate::proofs::Landing::landing_at_past, crate::proofs::Landing::answer_at_read, crate::proofs::Landing::answer_at_past))]
 fn append_among(
+    alloc: Global,
     journals: &mut [Journal],
     place: usize,
     attempt: Attempt,
     bytes: Blob,
-) -> Result<(), NoMemory>
-    ensures ok { OnOk result (journals.new ≡ appended_at place bytes journals.old) }
+) -> Result<Landed, NoMemory>
+    ensures answer { IfOk result
+        (λ landed. landed ≡ answer_at place (plain attempt bytes) journals.old) }
+    ensures ok { OnOk result (journals.new ≡ landing_at attempt place bytes journals.old) }
     ensures err { OnErr result (journals.new ≡ journals.old) }
 {
     if place >= journals.len() {
-        return Ok(());
+        return answer_empty(alloc, attempt, bytes);
     }
     journals[place].append(attempt, bytes)
 }
@@ -141,7 +160,7 @@ impl Journals {
 
     /// Adds an empty journal behind the others.
     pub fn add(&mut self, alloc: Global, name: Name) -> Result<(), NoMemory>
-        ensures { OnOk result (self.new ≡ self.old ++ record { name = name; text = [] } ∷ []) }
+        ensures { OnOk result (self.new ≡ self.old ++ record { name = name; entries = [] } ∷ []) }
     {
         self.journals.push(Journal::new(alloc, name))?;
         Ok(())
@@ -164,7 +183,7 @@ impl Journals {
     /// The journal at this place. None exactly where there is no such place. It takes no memory.
     pub fn get(&self, place: usize) -> Option<&Journal>
         ensures { MatchOption result (text_at place self.now ≡ [])
-            (λ journal. journal.now.text ≡ text_at place self.now) }
+            (λ journal. text_in journal.now ≡ text_at place self.now) }
     {
         journal_among(self.journals.as_slice(), place)
     }
@@ -180,11 +199,20 @@ impl Journals {
         }
     }
 
-    /// Puts the bytes behind the text of the journal at this place, if there is one. After NoMemory nothing has changed.
-    pub fn append_at(&mut self, place: usize, attempt: Attempt, bytes: Blob) -> Result<(), NoMemory>
-        ensures ok { OnOk result (self.new ≡ appended_at place bytes self.old) }
+    /// Appends the bytes to the journal at this place, if there is one, as an entry of this attempt, and gives its
+    /// answer; where there is none, that of an empty one. After NoMemory nothing has changed.
+    pub fn append_at(
+        &mut self,
+        place: usize,
+        attempt: Attempt,
+        bytes: Blob,
+    ) -> Result<Landed, NoMemory>
+        ensures answer { IfOk result
+            (λ landed. landed ≡ answer_at place (plain attempt bytes) self.old) }
+        ensures ok { OnOk result (self.new ≡ landing_at attempt place bytes self.old) }
         ensures err { OnErr result (self.new ≡ self.old) }
     {
-        append_among(self.journals.as_mut_slice(), place, attempt, bytes)
+        let alloc = *self.journals.allocator();
+        append_among(alloc, self.journals.as_mut_slice(), place, attempt, bytes)
     }
 }

@@ -1,8 +1,9 @@
 //! What a shard promises, for every list of happenings.
 ghost use Rattle.std.specs.Prelude.{◌≡◌, ℕ, List, map, true};
 ghost use Rattle.gz_plain.specs.Definitions.{Definition, AllGoOn, definition_of};
-ghost use Rattle.gz_plain.specs.Promise.{AllExactlyOnce};
-ghost use Rattle.gz_plain.specs.Order.{AreInOrder, AllRest, wirings_of};
+ghost use Rattle.gz_plain.specs.Promise.{AllCommitLines, AllExactlyOnce, AllServe};
+ghost use Rattle.gz_promise.specs.Order.{AreInOrder};
+ghost use Rattle.gz_plain.specs.Rests.{AllRest, wirings_of};
 ghost use Rattle.gz_plain.specs.Reports.{AllTellCaught, AllUpToDate};
 ghost use Rattle.gz_plain.specs.Shards.{World, round, settled};
 ghost use Rattle.gz_plain.specs.Runs.{Event, MayAllHappen, after_events, changed, continues, nothing};
@@ -11,11 +12,17 @@ ghost use Rattle.gz_plain.specs.Runs.{Event, MayAllHappen, after_events, changed
 /// applications, whatever clients publish, however often everything settles, and whatever journals and shards are
 /// added or have another definition on the way. Of each shard that kept the definition that it began with: each
 /// committed message of its sources is taken once and in order, its store is the application's fold over that one read
-/// order, and readers of each of its outputs accept what the fold emits to it, each once and in order.
-#[tactic(auto, using(crate::proofs::Promises::all_exactly_once_after))]
+/// order, and readers of each of its outputs accept what the fold emits to it, each once and in order. A client that
+/// writes transactions, or messages one by one, is read as it wrote, each message once. Each offset of a commit is the
+/// end of a whole line.
+#[tactic(auto, using(crate::proofs::Promises::all_exactly_once_after, crate::proofs::Promises::all_serve_after, crate::proofs::Promises::all_lines_after))]
 pub fn every_shard_is_exactly_once()
-    ensures { (es : List Event) → MayAllHappen es nothing →
+    ensures once { (es : List Event) → MayAllHappen es nothing →
         AllExactlyOnce (after_events es nothing).journals (after_events es nothing).shards }
+    ensures users { (es : List Event) → MayAllHappen es nothing →
+        AllServe (after_events es nothing).journals (after_events es nothing).shards }
+    ensures lines { (es : List Event) → MayAllHappen es nothing →
+        AllCommitLines (after_events es nothing).journals (after_events es nothing).shards }
 {}
 
 /// Where a journal's writers come before its readers, a settle ends: a further round changes nothing, and each

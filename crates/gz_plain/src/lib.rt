@@ -1,4 +1,12 @@
 //! Journals as texts, and shards that read and write them; and that the shards keep the promise.
+//!
+//! ```text
+//! let mut cluster = Cluster::new(alloc);
+//! cluster.change(alloc, journals, definitions)?;              // journals and shards that are new, or other definitions
+//! cluster.append(name, attempt, bytes)?;                      // one entry
+//! cluster.settle(alloc)?;                                     // until every shard is quiescent
+//! let reports = cluster.reports(alloc)?;
+//! ```
 #![tactic(auto)]
 
 mod begin;

@@ -1,7 +1,7 @@
 //! What a shard reads of a source.
 ghost use Rattle.std.specs.Prelude.{◌≡◌, ◌≤◌, ◌^◌, ◌++◌, [], None, length, drop, map, IfOk, OnOk};
 ghost use Rattle.gz_sequencer.specs.Machine.{at, fed, point_of, resumed, started};
-ghost use Rattle.gz_plain.specs.Journals.{text_at};
+ghost use Rattle.gz_promise.specs.Journals.{text_at};
 ghost use Rattle.gz_plain.specs.Readers.{AreRead, IsRead, accepted, accepted_all, all_news, end_of_reader, news, reading, reading_all, HaveRoom};
 
 use crate::feed::feed;

@@ -3,12 +3,12 @@ ghost use Rattle.std.specs.Prelude.{◌≡◌, ◌+◌, ◌-◌, ◌<◌, ◌≤
 ghost use Rattle.gz_sequencer.specs.Machine.{fed, started};
 ghost use Rattle.gz_plain.specs.Cluster.{AreSmallSources, definition_of, passed, reaches as reached_at, reader_upto, readers_upto, source_named};
 ghost use Rattle.gz_plain.specs.Definitions.{with_definition as redefined};
-ghost use Rattle.gz_plain.specs.Journals.{text_at};
+ghost use Rattle.gz_promise.specs.Journals.{text_at};
 ghost use Rattle.gz_promise.specs.Parts.{part};
 ghost use Rattle.gz_plain.specs.Running.{IsKept, journals_of};
 ghost use Rattle.gz_plain.specs.Runs.{ArePresent};
 ghost use Rattle.gz_plain.specs.Seen.{shard_of};
-ghost use Rattle.gz_plain.specs.Sources.{committed, end_of as end_at};
+ghost use Rattle.gz_promise.specs.Sources.{committed, end_of as end_at};
 
 use crate::begin::begin_writers;
 use crate::cluster::{Definition, Source};

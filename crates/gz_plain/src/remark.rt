@@ -3,7 +3,7 @@ ghost use Rattle.std.specs.Prelude.{◌≡◌, ◌++◌, None, Some, filter, map
 ghost use Rattle.gz_plain.specs.Definitions.{is_read as is_read_by, mark_or as mark_among, marked, marks_after, marks_of as marks_seen};
 ghost use Rattle.gz_plain.specs.Seen.{shard_of, source_of};
 ghost use Rattle.gz_plain.specs.Shards.{last_offsets as last_seen};
-ghost use Rattle.gz_plain.specs.Sources.{froms_of};
+ghost use Rattle.gz_promise.specs.Sources.{froms_of};
 
 use crate::past::{Mark, Past};
 use crate::reader::Reader;

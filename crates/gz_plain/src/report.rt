@@ -1,5 +1,6 @@
 //! What is told of journals and shards.
 ghost use Rattle.std.specs.Prelude.{◌≡◌, map, IfOk};
+ghost use Rattle.gz_promise.specs.Journals.{text_in};
 ghost use Rattle.gz_plain.specs.Reports.{count_committed as committed_in, is_none, report_of};
 ghost use Rattle.gz_plain.specs.Running.{AllKept, IsKept};
 ghost use Rattle.gz_plain.specs.Seen.{shard_of, shards_of};
@@ -80,7 +81,7 @@ pub fn report_all(
 /// How many messages of a journal's text are committed.
 #[tactic(auto, using(crate::proofs::Pieces::whole_text, crate::proofs::Reading::fed_released))]
 pub fn count_committed(alloc: Global, journal: &Journal) -> Result<usize, NoMemory>
-    ensures { IfOk result (λ count. count ≡ committed_in journal.now.text) }
+    ensures { IfOk result (λ count. count ≡ committed_in (text_in journal.now)) }
 {
     let mut sequencer = Sequencer::new(alloc, 0);
     feed_journal(journal, &mut sequencer, journal.end())?;

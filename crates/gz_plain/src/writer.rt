@@ -3,6 +3,7 @@ ghost use Rattle.std.specs.Prelude.{◌≡◌, ◌+◌, ◌<◌, ◌≤◌, ◌^
 ghost use Rattle.gz_frame.specs.Line.{line_of};
 ghost use Rattle.gz_plain.specs.Places.{ArePlaced, all_appended, ended, names_of, places_of, with_lines};
 ghost use Rattle.gz_plain.specs.Plain.{ack_at, lines_from};
+ghost use Rattle.gz_promise.specs.Journals.{appended_at};
 ghost use Rattle.gz_promise.specs.Names.{Distinct};
 ghost use Rattle.gz_plain.specs.Seen.{name_of};
 ghost use Rattle.gz_plain.specs.Shards.{written_to};
@@ -140,6 +141,22 @@ fn empty_texts(alloc: Global, count: usize) -> Result<Vec<Blob>, NoMemory>
     Ok(texts)
 }
 
+/// Puts the text behind the journal at this place, as an entry of this attempt. More than 2^62 bytes fit no memory.
+fn append_text(
+    place: usize,
+    attempt: &Attempt,
+    text: Blob,
+    journals: &mut Journals,
+) -> Result<(), NoMemory>
+    ensures { OnOk result (journals.new ≡ appended_at attempt.now place text journals.old) }
+{
+    let landed = journals.append_at(place, attempt.copy()?, text)?;
+    if !landed.is_landed() {
+        return Err(NoMemory);
+    }
+    Ok(())
+}
+
 /// Puts each text behind the journal at its writer's place, as an entry of this attempt.
 fn append_texts(
     writers: &[Writer],
@@ -149,11 +166,11 @@ fn append_texts(
 ) -> Result<(), NoMemory>
     requires { length texts.items ≡ length writers.now }
     ensures { OnOk result
-        (journals.new ≡ all_appended (places_of writers.now) texts.items journals.old) }
+        (journals.new ≡ all_appended attempt.now (places_of writers.now) texts.items journals.old) }
 {
     let mut i = 0;
     for text in texts {
-        journals.append_at(writers[i].place, attempt.copy()?, text)?;
+        append_text(writers[i].place, attempt, text, journals)?;
         i += 1;
     }
     Ok(())
@@ -198,7 +215,7 @@ pub fn write_commit(
     requires names { Distinct (names_of journals.old) }
     requires places { ArePlaced journals.old writers.now }
     ensures journals { OnOk result (journals.new
-        ≡ written_to (length writers.now) 0 (lines_from producer.old.id producer.old.last outputs.now)
+        ≡ written_to attempt.now (length writers.now) 0 (lines_from producer.old.id producer.old.last outputs.now)
         (ack_at producer.old.id (producer.old.last + length outputs.now + 1)) (map name_of writers.now) journals.old) }
     ensures producer { OnOk result
         (producer.new ≡ record producer.old { last = producer.old.last + length outputs.now + 1 }) }

@@ -1,7 +1,7 @@
 // A commit with two outputs, written out by hand.
 
 ghost use Rattle.std.specs.Prelude.{◌≡◌, ◌≤◌, length, IfOk};
-ghost use Rattle.gz_plain.specs.Journals.{place_of};
+ghost use Rattle.gz_promise.specs.Journals.{place_of};
 
 use crate::journals::Journals;
 use crate::writer::{Writer, write_commit};

@@ -10,7 +10,9 @@
 #![tactic(auto)]
 
 mod error;
+mod handing;
 mod player;
 
 pub use error::PlayError;
+pub use handing::Learnt;
 pub use player::Player;

@@ -2,12 +2,15 @@
 ghost use Rattle.std.specs.Prelude.{◌≡◌, ◌≤◌, ◌<◌, ◌+◌, ◌^◌, length, drop, OnOk};
 ghost use Rattle.gz_recovery.specs.Operations.{op_of};
 ghost use Rattle.gz_recovery.specs.Files.{after_op};
+ghost use Rattle.gz_playback.specs.Handing.{handoff, learnt, HandsOver};
 ghost use Rattle.gz_playback.specs.Playing.{at, new_player, spoiled, plays_fsm, plays_op, plays_next, plays_byte, plays, Feeds, is_at_head};
 
-use crate::PlayError;
+use crate::handing::{author_label, author_text, handoff_frame};
+use crate::{Learnt, PlayError};
 use gz_frame::{FrameError, unframe};
-use gz_label::{Blob, NoMemory};
-use gz_recovery::{Fsm, FsmError, Op, read_op};
+use gz_journal::{Landed, Request};
+use gz_label::{Attempt, Blob, NoMemory, Selector};
+use gz_recovery::{Fsm, FsmError, Op, OpKind, RecordError, Recorder, read_op};
 use std::alloc::Global;
 use std::marker::Model;
 
@@ -169,5 +172,42 @@ impl Player {
         ensures { result ≡ is_at_head head self.now }
     {
         head == self.at() && self.left.is_empty() && self.bad.is_none()
+    }
+
+    /// The request by which the author takes the log over: it expects the offset that the player wants next, and appends
+    /// a handoff with the next number, with which the register `author` becomes this author's sixteen digits. SeqEnd
+    /// exactly where the number would be above 2^62.
+    #[tactic(auto, using(crate::proofs::Handoffs::next_kind, crate::proofs::Handoffs::next_small, crate::proofs::Handoffs::no_value))]
+    pub fn handoff(&self, author: u64, attempt: Attempt) -> Result<Request, RecordError>
+        ensures { HandsOver result (handoff author attempt self.now) }
+    {
+        let mut recorder = Recorder::new(author, &self.fsm);
+        let op = recorder.next_op(OpKind::Handoff)?;
+        let content = handoff_frame(self.alloc, &op)?;
+        let take = author_label(self.alloc, "")?;
+        let digits = author_text(self.alloc, author)?;
+        let add = author_label(self.alloc, digits.as_str())?;
+        Ok(Request {
+            attempt,
+            offset: Some(self.at()),
+            selector: Selector::new(self.alloc),
+            take,
+            add,
+            content,
+        })
+    }
+
+    /// What is known from the answer to the handoff: whether the log is the author's own, or where to play on to before
+    /// the next try. None exactly where it is another answer, which tells nothing of who has the log. The player stays
+    /// as it is. It takes no memory.
+    pub fn learn(&self, answer: &Landed) -> Option<Learnt>
+        ensures { result ≡ learnt answer.now }
+    {
+        match answer {
+            Landed::Landed { .. } => Some(Learnt::Own),
+            Landed::WrongOffset { head } => Some(Learnt::Retry { head: *head }),
+            Landed::RegisterMismatch { .. } => None,
+            Landed::TooLarge { .. } => None,
+        }
     }
 }

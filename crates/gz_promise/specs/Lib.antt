@@ -6,3 +6,6 @@ pub mod Accounts
 pub mod Promise
 pub mod Laws
 pub mod Clients
+pub mod Journals
+pub mod Sources
+pub mod Order

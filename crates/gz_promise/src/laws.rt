@@ -12,7 +12,7 @@ ghost use Rattle.gz_app.specs.declared.app.AppKind.{AppKind as App};
 ghost use Rattle.gz_promise.specs.Accounts.{Account};
 ghost use Rattle.gz_app.specs.declared.app.AppKind.TheVariants.{Count};
 ghost use Rattle.gz_promise.specs.Applications.{folded};
-ghost use Rattle.gz_promise.specs.Clients.{AreSingles, IsSource, count_of, read_from};
+ghost use Rattle.gz_promise.specs.Clients.{AreSingles, IsSource, ServesUsers, count_of, read_from};
 ghost use Rattle.gz_promise.specs.Laws.{takes_nothing, takes_two_orders};
 ghost use Rattle.gz_promise.specs.Promise.{AreRead, ExactlyOnce, NothingCommitted, ReadsAll, messages_in, read_order};
 
@@ -73,4 +73,11 @@ pub fn a_store_is_of_the_read_order()
         a.store ≡ folded a.app [] (messages_in (read_order a once)) }
     ensures count { (a : Account) (once : ExactlyOnce a) (key : List ℕ) → a.app ≡ Count →
         number_at key a.store ≡ min (count_of key (messages_in (read_order a once))) (2 ^ 64 - 1) }
+{}
+
+/// Whatever an account is, if it is exactly once: clients are read as they wrote, and counts are those of the read
+/// order.
+#[tactic(auto, using(crate::proofs::Users::serves))]
+pub fn exactly_once_serves_users()
+    ensures { (a : Account) (once : ExactlyOnce a) → ServesUsers a once }
 {}

@@ -13,5 +13,5 @@ mod laws;
 pub use laws::{
     a_client_of_messages_is_read_once, a_client_of_transactions_is_read_once,
     a_read_order_has_what_offsets_say, a_shard_at_rest_has_read, a_store_is_of_the_read_order,
-    one_order_is_kept, what_takes_nothing_is_refused,
+    exactly_once_serves_users, one_order_is_kept, what_takes_nothing_is_refused,
 };

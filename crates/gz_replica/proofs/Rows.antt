@@ -8,7 +8,11 @@ use Rattle.gz_wire.specs.declared.msg.Msg.{Msg}
 use Rattle.gz_wire.specs.declared.msg.Msg.TheVariants.{KsTxn, Promise, Promised, Adopt, Adopted, Refuse, Replicate, Held, Head, StoreList}
 use Rattle.gz_wire.specs.declared.msg.Send.{Send}
 use Rattle.gz_spool.specs.Spools.{empty_at}
-use Rattle.gz_replica.specs.Member.{Route, Report, Part, Member, Outcome, Closed, Open, new_member, send, idle}
+use Rattle.gz_replica.specs.declared.part.Route.{Route}
+use Rattle.gz_replica.specs.declared.part.Part.{Part}
+use Rattle.gz_replica.specs.declared.part.Part.TheVariants.{Closed, Open}
+use Rattle.gz_replica.specs.Slots.{Report}
+use Rattle.gz_replica.specs.Member.{Member, Outcome, new_member, send, idle}
 use Rattle.gz_replica.specs.Opening.{keys, store, open_route, on_promised, on_store_end, on_adopted, on_synced, image_taken, best}
 use Rattle.gz_replica.specs.Replicating.{on_promise, on_adopt, on_replicate, on_head}
 use Rattle.gz_replica.specs.Primary.{put_entry, on_held, on_stored}

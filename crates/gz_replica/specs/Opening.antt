@@ -8,7 +8,13 @@ use Rattle.gz_label.specs.declared.keys.Compare.{Compare}
 use Rattle.gz_wire.specs.declared.msg.Msg.{Msg}
 use Rattle.gz_wire.specs.declared.msg.Msg.TheVariants.{KsTxn, Promise, Promised, Adopt, Adopted, Refuse, Head, StoreList}
 use Rattle.gz_spool.specs.Spools.{spool_end, empty_at, raised}
-use Rattle.gz_replica.specs.Member.{Route, Report, Slots, Part, Member, Outcome, Closed, Opening, Adopting, Syncing, Open, fill, full, slots_for, all_at, send, to_each, idle, answered, after_sends}
+use Rattle.gz_replica.specs.declared.part.Route.{Route}
+use Rattle.gz_replica.specs.declared.part.Part.{Part}
+use Rattle.gz_replica.specs.declared.part.Part.TheVariants.{Closed, Opening, Adopting, Syncing, Open}
+use Rattle.gz_replica.specs.declared.choice.Choice.{Choice}
+use Rattle.gz_replica.specs.declared.choice.Choice.TheVariants.{Own, At}
+use Rattle.gz_replica.specs.Slots.{Report, Slots, fill, full, slots_for, all_at, value_at}
+use Rattle.gz_replica.specs.Member.{Member, Outcome, send, to_each, idle, answered, after_sends}
 
 -- the names of the two nodes that never stop
 abbrev pub keys : List ℕ
@@ -57,6 +63,11 @@ best o (p ∷ ps) = better o p.1 (best o ps)
 abbrev pub image_taken : ℕ → Option Report → Image
 image_taken stored None = empty_at stored
 image_taken stored (Some r) = r.image
+
+-- the report that a choice takes, where the own one is this
+abbrev pub report_chosen : Choice → Report → Slots Report → Option Report
+report_chosen Own own reports = Some own
+report_chosen (At place) own reports = value_at reports place
 
 -- ---- the steps of an opening
 

@@ -3,7 +3,11 @@ use Rattle.std.specs.Prelude.{ℕ, ◌+◌, ◌==◌, List, [], ◌∷◌, ◌++
 use Rattle.gz_label.specs.declared.entry.Entry.{Entry}
 use Rattle.gz_wire.specs.declared.msg.Msg.TheVariants.{Replicate, Head}
 use Rattle.gz_spool.specs.Spools.{spool_end, extended, raised, trimmed}
-use Rattle.gz_replica.specs.Member.{Route, Part, Member, Outcome, Open, least, held_raised, to_each, idle, after_sends}
+use Rattle.gz_replica.specs.declared.part.Route.{Route}
+use Rattle.gz_replica.specs.declared.part.Part.{Part}
+use Rattle.gz_replica.specs.declared.part.Part.TheVariants.{Open}
+use Rattle.gz_replica.specs.Slots.{least, held_raised}
+use Rattle.gz_replica.specs.Member.{Member, Outcome, to_each, idle, after_sends}
 
 abbrev pub tell_head : List ℕ → Route → Member → Outcome
 tell_head j r m = record { member = m; sends = to_each (Head j r.epoch m.spool.head m.spool.begin) r.others; numbered = 0 }

@@ -5,7 +5,9 @@ use Rattle.gz_label.specs.declared.entry.Image.{Image}
 use Rattle.gz_journal.specs.JournalList.{max_end}
 use Rattle.gz_wire.specs.declared.msg.Msg.TheVariants.{Promised, Adopted, Refuse, Held}
 use Rattle.gz_spool.specs.Spools.{spool_end, is_image, extended, raised, trimmed}
-use Rattle.gz_replica.specs.Member.{Part, Member, Outcome, Closed, idle, answered}
+use Rattle.gz_replica.specs.declared.part.Part.{Part}
+use Rattle.gz_replica.specs.declared.part.Part.TheVariants.{Closed}
+use Rattle.gz_replica.specs.Member.{Member, Outcome, idle, answered}
 use Rattle.gz_replica.specs.Opening.{stale, not_open, gap}
 
 abbrev pub refuses : List ℕ → List ℕ → ℕ → ℕ → ℕ → Member → Outcome

@@ -4,7 +4,11 @@ use Rattle.gz_label.specs.declared.entry.Entry.{Entry}
 use Rattle.gz_wire.specs.declared.msg.Send.{Send}
 use Rattle.gz_wire.specs.declared.msg.Msg.TheVariants.{Promise, Adopt, Replicate, Head, StoreList}
 use Rattle.gz_spool.specs.Spools.{spool_end, placed_from}
-use Rattle.gz_replica.specs.Member.{Route, Part, Member, Outcome, Closed, Opening, Adopting, Syncing, Open, missing, send, to_each, idle, after_sends}
+use Rattle.gz_replica.specs.declared.part.Route.{Route}
+use Rattle.gz_replica.specs.declared.part.Part.{Part}
+use Rattle.gz_replica.specs.declared.part.Part.TheVariants.{Closed, Opening, Adopting, Syncing, Open}
+use Rattle.gz_replica.specs.Slots.{missing}
+use Rattle.gz_replica.specs.Member.{Member, Outcome, send, to_each, idle, after_sends}
 use Rattle.gz_replica.specs.Opening.{keys, store, sync_txn}
 
 -- each entry to one member

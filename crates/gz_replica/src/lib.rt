@@ -1,22 +1,32 @@
 //! A broker's part in one journal.
 //!
 //! `specs/` says what a member is and what each rule makes of it: how a primary opens, what members do for it, how an
-//! append is put and acknowledged, and what is sent again. This crate has the definitions and the law below; the type
-//! comes to it with its code.
+//! append is put and acknowledged, and what is sent again. Each rule is a method of `Member`.
+//!
+//! ```text
+//! let mut member = Member::new(alloc);
+//! let sends = member.open_route(&journal, route, req)?;       // it asks the others to promise, and the store
+//! let sends = member.put(&journal, entry)?;                   // an open one sends it to the others
+//! let sends = member.on_held(&journal, &from, epoch, end)?;   // and its head rises with what they hold
+//! ```
 #![tactic(auto)]
 
-ghost use Rattle.std.specs.Prelude.{◌≡◌, ◌<◌, List, ℕ};
-ghost use Rattle.gz_label.specs.declared.entry.Entry.{Entry};
-ghost use Rattle.gz_label.specs.declared.entry.Image.{Image};
-ghost use Rattle.gz_replica.specs.Member.{Member};
-ghost use Rattle.gz_replica.specs.Replicating.{on_adopt, on_promise, on_replicate};
+mod choice;
+mod ends;
+mod keys;
+mod laws;
+mod member;
+mod part;
+mod reports;
+mod sends;
+mod slots;
+#[cfg(test)]
+mod tests;
 
-/// What is of an epoch below the promised one changes nothing: no promise, image or entry.
-pub fn a_stale_epoch_changes_nothing()
-    ensures promise { (j : List ℕ) (m : Member) (from : List ℕ) (epoch : ℕ) → epoch < m.promised →
-        (on_promise j m from epoch).member ≡ m }
-    ensures adopt { (j : List ℕ) (m : Member) (from : List ℕ) (epoch : ℕ) (image : Image) →
-        epoch < m.promised → (on_adopt j m from epoch image).member ≡ m }
-    ensures replicate { (j : List ℕ) (m : Member) (from : List ℕ) (epoch offset : ℕ) (entry : Entry)
-        (head : ℕ) → epoch < m.promised → (on_replicate j m from epoch offset entry head).member ≡ m }
-{}
+pub use choice::Choice;
+pub use ends::{HeldEnds, Reached};
+pub use laws::a_stale_epoch_changes_nothing;
+pub use member::Member;
+pub use part::{Part, Route, StoreEnd};
+pub use reports::{Report, Reports};
+pub use sends::Sent;

@@ -1,24 +1,28 @@
 -- Whole messages: what is read is spelled so, what is spelled so is read, and no spelling is a prefix of another one.
-use Rattle.std.proofs.Common.{◌≡◌, ℕ, suc, ◌+◌, ◌^◌, ◌<◌, ◌≤◌, Bool, true, false, cond, ltb, List, [], ◌∷◌, ◌++◌, length, take, drop, Option, Some, None, Result, Ok, Err, refl, sym, ap, subst, ◌∙◌, append_assoc, arith}
+use Rattle.std.proofs.Common.{◌≡◌, ℕ, suc, ◌+◌, ◌≤◌, Bool, true, false, cond, ltb, List, [], ◌∷◌, ◌++◌, length, take, drop, Option, Some, None, Result, Ok, Err, refl, sym, ap, subst, ◌∙◌, append_assoc, arith}
+use Rattle.std.specs.Prelude.{IfOk}
 use Rattle.std.specs.List.{AllByRecursion}
 use Rattle.std.specs.Int.{w32, to_le_bytes, from_le_bytes}
 use Rattle.std.proofs.lemmas.Bool.{ltb-false, le-ltb}
-use Rattle.std.proofs.lemmas.List.{take_at, drop_at, take-append-drop, length-append, length-take, length-drop, drop-drop, append-nil, nil_from_length}
+use Rattle.std.proofs.lemmas.List.{take_at, drop_at, take-append-drop, length-append, length-take, drop-drop, append-nil, nil_from_length}
 use Rattle.std.proofs.lemmas.Nat.{le_bytes_4, from_le_bytes-to_le_bytes_4}
 use Rattle.gz_wire.specs.declared.msg.Msg.{Msg}
 use Rattle.gz_wire.specs.declared.kind.Kind.{Kind}
-use Rattle.gz_spelling.specs.declared.decoded.Decoded.{Decoded}
+use Rattle.gz_spelling.specs.declared.wire.Decoded.{Decoded}
 use Rattle.gz_spelling.specs.declared.table.Row.{Row}
+use Rattle.gz_codec.specs.declared.error.FieldError.{FieldError}
+use Rattle.gz_codec.specs.declared.error.FieldError.TheVariants as field_errors
 use Rattle.gz_spelling.specs.declared.error.WireError.{WireError}
+use Rattle.gz_spelling.specs.declared.error.WireError.TheVariants.{TooLong, NeedMore, BadField, BadTag, NoMemory}
 use Rattle.gz_wire.specs.Kinds.{kind_of}
 use Rattle.gz_spelling.specs.Messages.{tag_of, kinds_of, fields_of, msg_of, payload, message_at}
-use Rattle.gz_codec.specs.Spelling.{text, fields, FitsText, FitEach}
-use Rattle.gz_codec.specs.Reading.{◌>>=◌, text_at, fields_at}
+use Rattle.gz_codec.specs.Spelling.{text, FitsText, FitEach}
+use Rattle.gz_codec.specs.Reading.{◌>>=◌, text_at, fields_at, Fails as FieldFails}
 use Rattle.gz_spelling.specs.Table.{kind_tagged, distinct, HasKind}
-use Rattle.gz_spelling.specs.Wire.{max_body, body_of, framed, spelling, body_in, named, peer_in, of_kind, msg_in, decoded, FitsMessage, decoded_of, Begins}
-use Rattle.gz_codec.proofs.Codec.{IsBytes, IsBytes-take, IsBytes-drop, Takes, bind_ok}
+use Rattle.gz_spelling.specs.Wire.{max_body, body_of, framed, spelling, body_in, named, peer_in, of_kind, msg_in, decoded, FitsMessage, decoded_of, Begins, Gives, Fails, in_message}
+use Rattle.gz_codec.proofs.Codec.{IsBytes, IsBytes-take, IsBytes-drop, bind_ok}
 use Rattle.gz_codec.proofs.Values.{text_codec, fields_take, fields_again}
-use Rattle.gz_spelling.proofs.Rows.{HasItsTag, tagged, made, Remade, remade, found_in}
+use Rattle.gz_spelling.proofs.Rows.{HasItsTag, tagged, made, remade, found_in}
 
 -- ---- what is spelled so is read
 
@@ -136,11 +140,11 @@ peer_read : (body : List ℕ) (x : List ℕ × List ℕ) → peer_in body ≡ Ok
 unfolding peer_in
 peer_read body x e = named_ok 0 (text_at 0 body) x e
 
-abbrev told_as : List ℕ → Msg → ℕ → Decoded
-told_as peer m used = record { peer = peer; msg = m; used = used }
+abbrev decoded_as : List ℕ → Msg → ℕ → Decoded
+decoded_as peer m used = record { peer = peer; msg = m; used = used }
 
 begins_so : (bytes body peer : List ℕ) (m : Msg) → body ≡ text peer ++ (tag_of (kind_of m) ∷ payload m) → bytes ≡ framed body ++ drop (4 + length body) bytes → length body ≤ max_body → FitsText peer → FitEach (kinds_of (kind_of m)) (fields_of m)
-    → Begins bytes (told_as peer m (4 + length body))
+    → Begins bytes (decoded_as peer m (4 + length body))
 unfolding body_of
 begins_so bytes body peer m is split short peer_fits fit = record {
   spelled = split ∙ ap (λ (y : List ℕ). framed y ++ drop (4 + length body) bytes) is;
@@ -151,15 +155,15 @@ begins_so bytes body peer m is split short peer_fits fit = record {
 pub begins : (rows : List Row) → AllByRecursion HasItsTag rows → (bytes : List ℕ) (d : Decoded) → IsBytes bytes → decoded rows bytes ≡ Ok d → Begins bytes d
 unfolding decoded body_of
 begins rows have bytes d fits e =
-    let a = bind_ok (body_in bytes) (λ body. peer_in body >>= λ peer. msg_in rows peer.1 >>= λ msg. ok (told_as peer.0 msg (4 + length body))) d e in
-    let b = bind_ok (peer_in a.0) (λ peer. msg_in rows peer.1 >>= λ msg. ok (told_as peer.0 msg (4 + length a.0))) d a.2 in
-    let c = bind_ok (msg_in rows b.0.1) (λ msg. ok (told_as b.0.0 msg (4 + length a.0))) d b.2 in
+    let a = bind_ok (body_in bytes) (λ body. peer_in body >>= λ peer. msg_in rows peer.1 >>= λ msg. ok (decoded_as peer.0 msg (4 + length body))) d e in
+    let b = bind_ok (peer_in a.0) (λ peer. msg_in rows peer.1 >>= λ msg. ok (decoded_as peer.0 msg (4 + length a.0))) d a.2 in
+    let c = bind_ok (msg_in rows b.0.1) (λ msg. ok (decoded_as b.0.0 msg (4 + length a.0))) d b.2 in
     let first = body_took bytes a.0 fits a.1 in
     let second = text_codec.takes 0 a.0 b.0 first.2 (peer_read a.0 b.0 b.1) in
     let third = msg_took rows have b.0.1 c.0 second.0.rest_fits c.1 in
     let body : a.0 ≡ text b.0.0 ++ (tag_of (kind_of c.0) ∷ payload c.0) = second.0.parts ∙ ap (λ (y : List ℕ). text b.0.0 ++ y) third.is in
-    let all : Begins bytes (told_as b.0.0 c.0 (4 + length a.0)) = begins_so bytes a.0 b.0.0 c.0 body first.0 first.1 second.1 third.fit in
-    subst (λ (y : Decoded). Begins bytes y) (ok_is (told_as b.0.0 c.0 (4 + length a.0)) d c.2) all
+    let all : Begins bytes (decoded_as b.0.0 c.0 (4 + length a.0)) = begins_so bytes a.0 b.0.0 c.0 body first.0 first.1 second.1 third.fit in
+    subst (λ (y : Decoded). Begins bytes y) (ok_is (decoded_as b.0.0 c.0 (4 + length a.0)) d c.2) all
 
 -- ---- no spelling is a prefix of another one
 
@@ -167,9 +171,49 @@ pub no_prefix : (rows : List Row) → distinct rows ≡ true → AllByRecursion 
     → (p ≡ q) × (m ≡ n) × (more ≡ [])
 no_prefix rows apart have p q m n more here there one other same =
     let read : decoded rows (spelling p m ++ more) ≡ ok (decoded_of q n) = ap (decoded rows) (same ∙ sym (append-nil (spelling q n))) ∙ read_again rows q n [] apart have there other in
-    let told_same : decoded_of p m ≡ decoded_of q n = ok_is (decoded_of p m) (decoded_of q n) (sym (read_again rows p m more apart have here one) ∙ read) in
-    let peers : p ≡ q = ap (λ (d : Decoded). d.peer) told_same in
-    let msgs : m ≡ n = ap (λ (d : Decoded). d.msg) told_same in
+    let decoded_same : decoded_of p m ≡ decoded_of q n = ok_is (decoded_of p m) (decoded_of q n) (sym (read_again rows p m more apart have here one) ∙ read) in
+    let peers : p ≡ q = ap (λ (d : Decoded). d.peer) decoded_same in
+    let msgs : m ≡ n = ap (λ (d : Decoded). d.msg) decoded_same in
     let spelled : spelling p m ≡ spelling q n = ap (λ (x : List ℕ). spelling x m) peers ∙ ap (λ (x : Msg). spelling q x) msgs in
     let len : length (spelling p m) + length more ≡ length (spelling p m) = sym (length-append (spelling p m) more) ∙ ap length (same ∙ sym spelled) in
     (peers, msgs, nil_from_length more (omega arith))
+
+-- ---- the same of what a function returned
+
+pub found_begins : (rows : List Row) → AllByRecursion HasItsTag rows → (bytes : List ℕ) (r : Result Decoded WireError) → IsBytes bytes → Gives (λ d. d) r (decoded rows bytes) → IfOk r (λ d. Begins bytes d)
+found_begins rows have bytes (Ok d) fits given = begins rows have bytes d fits given
+found_begins rows have bytes (Err e) fits given = tt
+
+pub found_all : (rows : List Row) → distinct rows ≡ true → AllByRecursion HasItsTag rows → (bytes : List ℕ) (r : Result Decoded WireError) → Gives (λ d. d) r (decoded rows bytes) → (peer : List ℕ) (m : Msg) (more : List ℕ) → HasKind (kind_of m) rows → FitsMessage peer m → bytes ≡ spelling peer m ++ more
+    → Gives (λ d. d) r (Ok (decoded_of peer m))
+found_all rows apart have bytes r given peer m more there fits e = subst (λ f. Gives (λ d. d) r f) (ap (decoded rows) e ∙ read_again rows peer m more apart have there fits) given
+
+-- ---- a part that can't be read
+
+pub named_fails : {A : Type 0} (e : FieldError) (tag : ℕ) (read : Result A ℕ) → FieldFails e read → Fails (in_message tag e) (named tag read)
+named_fails field_errors.NoMemory tag read fails = tt
+named_fails (field_errors.Bad field) tag read fails = rw fails refl
+
+pub body_fails : (e : WireError) (rows : List Row) (bytes : List ℕ) → Fails e (body_in bytes) → Fails e (decoded rows bytes)
+unfolding decoded
+body_fails NoMemory rows bytes fails = tt
+body_fails TooLong rows bytes fails = rw fails refl
+body_fails NeedMore rows bytes fails = rw fails refl
+body_fails (BadField tag field) rows bytes fails = rw fails refl
+body_fails (BadTag tag) rows bytes fails = rw fails refl
+
+pub peer_fails : (e : WireError) (rows : List Row) (bytes body : List ℕ) → body_in bytes ≡ Ok body → Fails e (peer_in body) → Fails e (decoded rows bytes)
+unfolding decoded
+peer_fails NoMemory rows bytes body is fails = tt
+peer_fails TooLong rows bytes body is fails = rw (is, fails) refl
+peer_fails NeedMore rows bytes body is fails = rw (is, fails) refl
+peer_fails (BadField tag field) rows bytes body is fails = rw (is, fails) refl
+peer_fails (BadTag tag) rows bytes body is fails = rw (is, fails) refl
+
+pub msg_fails : (e : WireError) (rows : List Row) (bytes body peer rest : List ℕ) → body_in bytes ≡ Ok body → peer_in body ≡ Ok (peer, rest) → Fails e (msg_in rows rest) → Fails e (decoded rows bytes)
+unfolding decoded
+msg_fails NoMemory rows bytes body peer rest is peer_is fails = tt
+msg_fails TooLong rows bytes body peer rest is peer_is fails = rw (is, peer_is, fails) refl
+msg_fails NeedMore rows bytes body peer rest is peer_is fails = rw (is, peer_is, fails) refl
+msg_fails (BadField tag field) rows bytes body peer rest is peer_is fails = rw (is, peer_is, fails) refl
+msg_fails (BadTag tag) rows bytes body peer rest is peer_is fails = rw (is, peer_is, fails) refl

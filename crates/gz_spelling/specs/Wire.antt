@@ -4,9 +4,11 @@ use Rattle.std.specs.Int.{w32, to_le_bytes, from_le_bytes}
 use Rattle.gz_wire.specs.declared.msg.Msg.{Msg}
 use Rattle.gz_wire.specs.declared.kind.Kind.{Kind}
 use Rattle.gz_spelling.specs.declared.table.Row.{Row}
-use Rattle.gz_spelling.specs.declared.decoded.Decoded.{Decoded}
+use Rattle.gz_spelling.specs.declared.wire.Decoded.{Decoded}
+use Rattle.gz_codec.specs.declared.error.FieldError.{FieldError}
+use Rattle.gz_codec.specs.declared.error.FieldError.TheVariants as field_errors
 use Rattle.gz_spelling.specs.declared.error.WireError.{WireError}
-use Rattle.gz_spelling.specs.declared.error.WireError.TheVariants.{TooLong, NeedMore, BadField, BadTag}
+use Rattle.gz_spelling.specs.declared.error.WireError.TheVariants.{TooLong, NeedMore, BadField, BadTag, NoMemory}
 use Rattle.gz_wire.specs.Kinds.{kind_of}
 use Rattle.gz_spelling.specs.Messages.{tag_of, kinds_of, fields_of, payload, message_at}
 use Rattle.gz_spelling.specs.Table.{kind_tagged}
@@ -29,6 +31,14 @@ framed body = to_le_bytes w32 (length body) ++ body
 
 abbrev pub spelling : List ℕ → Msg → List ℕ
 spelling peer m = framed (body_of peer m)
+
+-- a body with its length, where it isn't too long
+unfoldable pub closed : List ℕ → Result (List ℕ) WireError
+closed body = if nat_lt max_body (length body) then Err TooLong else Ok (framed body)
+
+-- the spelling, where the body isn't too long
+abbrev pub encoded : List ℕ → Msg → Result (List ℕ) WireError
+encoded peer m = closed (body_of peer m)
 
 -- what has a spelling: a name and fields that fit, and a body that isn't too long
 abbrev pub FitsMessage : List ℕ → Msg → Type 0
@@ -77,3 +87,20 @@ decoded rows bytes = do
   peer ← peer_in body
   msg ← msg_in rows peer.1
   Ok (record { peer = peer.0; msg = msg; used = 4 + length body })
+
+-- ---- what a function returned, seen by view, is the answer, unless memory ran out
+
+abbrev pub Fails : {Y : Type 0} → WireError → Result Y WireError → Type 0
+Fails NoMemory answer = Unit {0}
+Fails TooLong answer = answer ≡ Err TooLong
+Fails NeedMore answer = answer ≡ Err NeedMore
+Fails (BadField tag field) answer = answer ≡ Err (BadField tag field)
+Fails (BadTag tag) answer = answer ≡ Err (BadTag tag)
+
+abbrev pub Gives : {X Y : Type 0} → (X → Y) → Result X WireError → Result Y WireError → Type 0
+Gives view (Ok x) answer = answer ≡ Ok (view x)
+Gives view (Err e) answer = Fails e answer
+
+abbrev pub in_message : ℕ → FieldError → WireError
+in_message tag (field_errors.Bad field) = BadField tag field
+in_message tag field_errors.NoMemory = NoMemory

@@ -1,5 +1,9 @@
 //! Why bytes are no message, or a message has no spelling.
 
+use std::alloc::{AllocError, AllocFailed};
+use std::error::Error;
+use std::fmt;
+
 /// Why a message has no spelling, or bytes begin with none.
 #[derive(Clone, Copy, Debug, PartialEq, Eq)]
 pub enum WireError {
@@ -15,4 +19,42 @@ pub enum WireError {
     BadTag { tag: u8 },
     /// Memory ran out.
     NoMemory,
+}
+
+impl fmt::Display for WireError {
+    fn fmt<W: fmt::Write>(&self, f: &mut fmt::Formatter<W>) -> fmt::Result {
+        match self {
+            WireError::TooLong => write!(f, "message too long"),
+            WireError::NeedMore => write!(f, "message cut short"),
+            WireError::BadField { tag, field } => {
+                write!(f, "bad field {field} of a message with tag {tag}")
+            }
+            WireError::BadTag { tag } => write!(f, "no message has tag {tag}"),
+            WireError::NoMemory => write!(f, "out of memory"),
+        }
+    }
+}
+
+impl Error for WireError {}
+
+impl From<AllocError> for WireError {
+    ghost use Rattle.std.specs.Prelude.{◌≡◌};
+    ghost use Rattle.gz_spelling.specs.declared.error.WireError.TheVariants.{NoMemory};
+
+    ghost from_gives = { λ _ e. e ≡ NoMemory };
+
+    fn from(_e: AllocError) -> WireError {
+        WireError::NoMemory
+    }
+}
+
+impl<T: Drop> From<AllocFailed<T>> for WireError {
+    ghost use Rattle.std.specs.Prelude.{◌≡◌};
+    ghost use Rattle.gz_spelling.specs.declared.error.WireError.TheVariants.{NoMemory};
+
+    ghost from_gives = { λ _ e. e ≡ NoMemory };
+
+    fn from(_e: AllocFailed<T>) -> WireError {
+        WireError::NoMemory
+    }
 }

@@ -13,7 +13,7 @@ pub struct Row {
 }
 
 /// Rows with distinct tags, each the tag of the row's kind.
-#[derive(Drop)]
+#[derive(Debug, Drop)]
 pub struct Table<const N: usize> {
     pub rows: [Row; N],
     ghost distinct: { IsTrue (distinct rows) },

@@ -1,12 +1,13 @@
 -- Where entries of a spool begin and end, and what stands behind some of them.
-use Rattle.std.proofs.Common.{◌≡◌, ◌⊎◌, inl, inr, ℕ, zero, suc, ◌+◌, ◌-◌, ◌<◌, ◌≤◌, ◌==◌, List, [], ◌∷◌, ◌++◌, length, take, drop, get_or, refl, ap, sym, ◌∙◌, Option, Some, None, arith, length-append}
+use Rattle.std.proofs.Common.{◌≡◌, ◌⊎◌, inl, inr, ℕ, zero, suc, ◌+◌, ◌-◌, ◌<◌, ◌≤◌, List, [], ◌∷◌, ◌++◌, length, take, drop, get_or, refl, ap, sym, ◌∙◌, Option, Some, None, nat_le, arith, length-append}
 use Rattle.std.proofs.lemmas.List.{append-nil, drop_all}
-use Rattle.std.proofs.lemmas.Bool.{eq-eqb, ne_eqb, cases_order}
+use Rattle.std.proofs.lemmas.Bool.{cond_both, eq-eqb, ne_eqb, cases_order}
 use Rattle.gz_label.specs.declared.label.Label.{Label}
 use Rattle.gz_label.specs.declared.entry.Entry.{Entry}
+use Rattle.gz_label.specs.declared.entry.Image.{Image}
 use Rattle.gz_journal.specs.JournalList.{text_of, end_of}
 use Rattle.gz_journal.proofs.Ends.{text_more}
-use Rattle.gz_spool.specs.Spools.{Rest, registers_behind, rest_from, rest_behind}
+use Rattle.gz_spool.specs.Spools.{Rest, extended, registers_behind, rest_behind, rest_from, spool_end, trimmed, with_rest}
 
 one_behind : (n : ℕ) → suc n ≡ n + 1
 one_behind n = omega arith
@@ -53,10 +54,6 @@ rest_here at base (e ∷ es) = rw (eq-eqb at at refl) refl
 pub rest_past : (offset at : ℕ) (base : List Label) (es : List Entry) → offset < at → rest_from offset at base es ≡ None
 rest_past offset at base [] less = rw (ne_eqb at offset (λ same. omega arith)) refl
 rest_past offset at base (e ∷ es) less = rw (ne_eqb at offset (λ same. omega arith)) (rest_past offset (at + length e.bytes) e.registers es (omega arith))
-
--- nothing, where there are no entries before it
-pub rest_none : (offset at : ℕ) (base : List Label) → at < offset → rest_from offset at base [] ≡ None
-rest_none offset at base less = rw (ne_eqb at offset (λ same. omega arith)) refl
 
 rest_next : (offset at : ℕ) (base : List Label) (es : List Entry) (i : ℕ) (e : Entry) → i < length es → e ≡ get_or es i e → at < offset
     → rest_from offset at base (drop i es) ≡ rest_from offset (at + length e.bytes) e.registers (drop (suc i) es)
@@ -110,3 +107,18 @@ behind_next base (e ∷ es) (suc i) = behind_next e.registers es i
 -- the registers behind so many entries, and then behind one more
 pub behind_more : (base : List Label) (es : List Entry) (i : ℕ) → registers_behind (registers_behind base (take i es)) (take 1 (drop i es)) ≡ registers_behind base (take (i + 1) es)
 behind_more base es i = behind_next base es i ∙ ap (λ (n : ℕ). registers_behind base (take n es)) (one_behind i)
+
+-- ---- what an entry more, and a trim, leave
+
+-- the end behind one entry more
+pub extended_end : (entry : Entry) (i : Image) → spool_end (extended entry i) ≡ spool_end i + length entry.bytes
+extended_end entry i = let more = end_more i.entries entry in omega (arith, more)
+
+rest_head : (begin : ℕ) (i : Image) (rest : Option Rest) → (with_rest begin i rest).head ≡ i.head
+rest_head begin i None = refl
+rest_head begin i (Some r) = refl
+
+-- a trim leaves the head
+pub trimmed_head : (begin : ℕ) (i : Image) → (trimmed begin i).head ≡ i.head
+trimmed_head begin i =
+    cond_both (nat_le begin i.head) _ _ (λ (after : Image). after.head ≡ i.head) (λ _. rest_head begin i (rest_from begin i.begin i.base i.entries)) (λ _. refl)

@@ -1,5 +1,5 @@
 //! The end of a journal, as one of its members holds it.
-ghost use Rattle.std.specs.Prelude.{◌≡◌, ◌≤◌, ◌<◌, ◌+◌, ◌++◌, List, length, take, drop, true, false, IfOk, IfSome, OnOk, OnErr, MatchOption};
+ghost use Rattle.std.specs.Prelude.{◌≡◌, ◌≤◌, ◌<◌, ◌+◌, ◌++◌, List, length, take, drop, slice_index_or, true, false, IfOk, IfSome, OnOk, OnErr, MatchOption};
 ghost use Rattle.std.specs.VecDeque.{deque_capacity, deque_len};
 ghost use Rattle.gz_label.specs.declared.label.Label.{Label};
 ghost use Rattle.gz_journal.specs.JournalList.{end_of, max_end};
@@ -158,11 +158,6 @@ impl Spool {
         })
     }
 
-    /// Where it takes memory.
-    pub fn allocator(&self) -> Global {
-        *self.entries.allocator()
-    }
-
     /// What the spool holds, as a copy.
     pub fn image(&self) -> Result<Image, NoMemory>
         ensures { IfOk result (λ image. image ≡ self.now.image) }
@@ -196,6 +191,7 @@ impl Spool {
     /// The offset behind the last entry, at most 2^62. It takes no memory.
     pub fn end(&self) -> u64
         ensures value { result ≡ spool_end self.now.image }
+        ensures within { result ≤ max_end }
         ensures image { is_image self.now.image ≡ true }
     {
         self.end
@@ -209,6 +205,21 @@ impl Spool {
             Some(entry) => &entry.registers,
             None => &self.base,
         }
+    }
+
+    /// How many entries there are. It takes no memory.
+    pub fn len(&self) -> usize
+        ensures { result ≡ length self.now.image.entries }
+    {
+        self.entries.len()
+    }
+
+    /// The entry at this place, counted from 0. It takes no memory.
+    pub fn entry(&self, place: usize) -> &Entry
+        requires { place < length self.now.image.entries }
+        ensures { result.now ≡ slice_index_or self.now.image.entries place result.now }
+    {
+        &self.entries[place]
     }
 
     /// For how many entries more there is room. It takes no memory.
@@ -265,6 +276,20 @@ impl Spool {
         ensures { self.new ≡ with_image (raised head self.old.image) self.old }
     {
         self.head = self.head.max(head.min(self.end));
+    }
+
+    /// The begin that `trim_to` of this offset leaves: the offset, where it is a boundary of entries from the
+    /// old begin to the head, or the old begin. It takes no memory.
+    pub fn begin_after(&self, offset: u64) -> u64
+        ensures { result ≡ (trimmed offset self.now.image).begin }
+    {
+        if offset > self.head {
+            return self.begin;
+        }
+        match count_before(&self.entries, self.begin, offset) {
+            Some(_count) => offset,
+            None => self.begin,
+        }
     }
 
     /// The entries below the offset go, where it is a boundary of entries from the old begin to the head, and

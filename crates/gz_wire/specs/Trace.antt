@@ -1,7 +1,7 @@
 -- What a trace prints of a message: a subject and a number.
-use Rattle.std.specs.Prelude.{ℕ, ◌+◌, ◌-◌, ◌*◌, ◌&&◌, ◌||◌, ◌==◌, List, [], ◌∷◌, length, take, drop, Bool, if◌then◌else◌, nat_le, max, codes}
-use Rattle.std.specs.List.{list_all}
+use Rattle.std.specs.Prelude.{ℕ, List, [], ◌∷◌, Option, Some, None, max, codes}
 use Rattle.gz_label.specs.declared.keys.KeyWrite.{KeyWrite}
+use Rattle.gz_fragment.specs.Names.{FragmentName, name_in}
 use Rattle.gz_wire.specs.declared.msg.Msg.{Msg}
 use Rattle.gz_wire.specs.declared.msg.Msg.TheVariants.{KsTxn, KsTxnOk, KsTxnNo, KsSince, KsSinceDone, KsChange, KsGrant, KsGranted, Promise, Promised, Adopt, Adopted, Refuse, Replicate, Held, Head, Append, AppendDone, Read, ReadDone, StorePut, StoreDone, StoreGet, StoreGot, StoreList, StoreNames}
 
@@ -43,31 +43,17 @@ subject_of (StoreGot req journal status offset content) = journal
 subject_of (StoreList req journal) = journal
 subject_of (StoreNames req journal names) = journal
 
--- a lower-case hexadecimal digit
-abbrev pub is_hex : ℕ → Bool
-is_hex b = (nat_le 48 b && nat_le b 57) || (nat_le 97 b && nat_le b 102)
-
-abbrev pub hex_value : ℕ → ℕ
-hex_value b = if nat_le b 57 then b - 48 else b - 87
-
--- the number that these digits spell behind others that spell n
-abbrev pub number_from : ℕ → List ℕ → ℕ
-number_from n [] = n
-number_from n (b ∷ bs) = number_from (n * 16 + hex_value b) bs
-
--- the number that 16 digits spell, and 0 for another text
-abbrev pub number_in : List ℕ → ℕ
-number_in text = if length text == 16 && list_all is_hex text then number_from 0 text else 0
-
--- the end that the name of a fragment says: its digits stand behind those of the begin and a dash
-abbrev pub end_in_name : List ℕ → ℕ
-end_in_name name = number_in (take 16 (drop 17 name))
+-- the end of a fragment's name, and 0 for a text that is none
+abbrev pub end_of : Option FragmentName → ℕ
+end_of None = 0
+end_of (Some name) = name.end
 
 -- the greatest end that one of the names says, or 0
 unfoldable pub greatest_end : List (List ℕ) → ℕ
 greatest_end [] = 0
-greatest_end (name ∷ names) = max (end_in_name name) (greatest_end names)
+greatest_end (name ∷ names) = max (end_of (name_in name)) (greatest_end names)
 
+-- the number that tells most of the message
 abbrev pub number_of : Msg → ℕ
 number_of (KsTxn req compares writes) = req
 number_of (KsTxnOk req revision) = revision

@@ -9,7 +9,7 @@ use Rattle.gz_spec.specs.Records.{SourceSpec, ShardSpec}
 use Rattle.gz_plain.specs.declared.cluster.Definition.{Definition}
 use Rattle.gz_plain.specs.declared.cluster.Source.{Source}
 use Rattle.gz_plain.specs.Definitions as plain
-use Rattle.gz_plain.specs.Sources as shards
+use Rattle.gz_promise.specs.Sources as shards
 use Rattle.gz_plain.specs.Cluster.{AreSmallSources, AreSmall, source_named, definition_of, definitions_of as definitions_seen}
 use Rattle.gz_world.specs.Starts as starts
 use Rattle.gz_world.specs.Starts.{source_of, defined}

@@ -12,7 +12,7 @@ use Rattle.gz_links.proofs.Whole.{whole_good, whole_is_ranked}
 use Rattle.gz_scenario.specs.Lawful.{is_start}
 use Rattle.gz_plain.specs.Cluster.{AreLinked, definitions_of as definitions_seen}
 use Rattle.gz_plain.specs.Definitions.{Definition}
-use Rattle.gz_plain.specs.Journals.{Journal}
+use Rattle.gz_promise.specs.Journals.{Journal}
 use Rattle.gz_plain.specs.Places.{names_of}
 use Rattle.gz_plain.specs.Runs.{with_journals, continues, changes, MayHappen}
 use Rattle.gz_promise.specs.Names.{Distinct}

@@ -7,7 +7,7 @@ use Rattle.gz_spec.specs.Specs.{name_of_journal}
 use Rattle.gz_spec.specs.Valid.{is_shard}
 use Rattle.gz_spec.specs.Records.{Specs, JournalSpec, ShardSpec}
 use Rattle.gz_plain.specs.Cluster.{AreLinked}
-use Rattle.gz_plain.specs.Journals.{Journal, is_journal}
+use Rattle.gz_promise.specs.Journals.{Journal, is_journal}
 use Rattle.gz_plain.specs.Places.{names_of}
 use Rattle.gz_plain.specs.Running.{journals_of}
 use Rattle.gz_plain.specs.Runs as plain

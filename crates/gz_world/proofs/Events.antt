@@ -29,7 +29,8 @@ use Rattle.gz_client.specs.Answers.{stands}
 use Rattle.gz_client.specs.Contents.{flags_of, message_at, messages_at, messages_of, content_of}
 use Rattle.gz_client.specs.Requests.{request_of}
 use Rattle.gz_client.specs.declared.answer.Answer.{Answer}
-use Rattle.gz_plain.specs.Journals.{appended}
+use Rattle.gz_label.specs.declared.entry.Attempt.{Attempt}
+use Rattle.gz_promise.specs.Journals.{appended}
 use Rattle.gz_plain.specs.Runs as plain
 use Rattle.gz_plain.specs.Shards as shards
 use Rattle.gz_world.specs.declared.reply.Reason.{Reason}
@@ -96,12 +97,12 @@ drafts_of p lawful =
 
 -- ---- one event
 
-landed_tied : (specs : Specs) (w : shards.World) (p : Published) (b : Bool) → list_all is_draft p.messages ≡ true → IsTied specs w
-    → IsTied specs (record w { journals = cond b (appended p.journal (content_of p) w.journals) w.journals })
-landed_tied specs w p true drafts t =
-    happens specs specs w (plain.lands p.journal (messages_of p)) t (are_clients p.producer p.messages drafts)
-    (landed_specified specs w true p.journal (content_of p) t.specified) t.ranked
-landed_tied specs w p false drafts t = record { specified = t.specified; ranked = t.ranked; happened = t.happened; may = t.may; reached = t.reached }
+landed_tied : (attempt : Attempt) (specs : Specs) (w : shards.World) (p : Published) (b : Bool) → list_all is_draft p.messages ≡ true → IsTied specs w
+    → IsTied specs (record w { journals = cond b (appended attempt p.journal (content_of p) w.journals) w.journals })
+landed_tied attempt specs w p true drafts t =
+    happens specs specs w (plain.lands attempt p.journal (messages_of p)) t (are_clients p.producer p.messages drafts)
+    (landed_specified attempt specs w true p.journal (content_of p) t.specified) t.ranked
+landed_tied attempt specs w p false drafts t = record { specified = t.specified; ranked = t.ranked; happened = t.happened; may = t.may; reached = t.reached }
 
 told_tied : (o : Option Reason) (line : ℕ) (name : List ℕ) (answer : Answer) (w : World) → IsTied w.specs w.cluster
     → IsTied (told_of o line name answer w).specs (told_of o line name answer w).cluster
@@ -113,7 +114,7 @@ publish_tied : (line : ℕ) (p : Published) (w : World) → list_all is_draft p.
 publish_tied line p w drafts t =
     let r = request_of line p in
     let answer = answer_to r p w in
-    told_tied (reason_of answer) line p.client answer (with_landed answer r p w) (landed_tied w.specs w.cluster p (stands answer) drafts t)
+    told_tied (reason_of answer) line p.client answer (with_landed answer r p w) (landed_tied r.attempt w.specs w.cluster p (stands answer) drafts t)
 
 settle_tied : (specs : Specs) (w : shards.World) → IsTied specs w → IsTied specs (shards.settled w)
 settle_tied specs w t = happens specs specs w plain.settles t tt (settled_specified specs w t.specified) t.ranked

@@ -10,9 +10,10 @@ pub mod Defined
 pub mod Changes
 pub mod Ready
 pub mod Tied
-pub mod Texts
+pub mod Entries
 pub mod Lines
 pub mod Events
 pub mod Happened
 pub mod Runs
 pub mod Promises
+pub mod Refusals

@@ -55,25 +55,6 @@ within_lines number line e is =
 
 -- ---- the first line
 
-line_said : (r : Result SpecLists SpecError) (specs : SpecLists) → specs_on_line 1 Specs r ≡ Ok (Specs specs) → r ≡ Ok specs
-line_said (Ok lists) specs is = cc
-line_said (Err e) specs is = absurd (cc)
-
-verb_said : (line : List ℕ) (d : Data) (verb : Option (List ℕ)) (specs : SpecLists) → event_if 1 line d verb ≡ Ok (Specs specs) → specs_of line ≡ Ok specs
-verb_said line d None specs is = absurd (cc)
-verb_said line d (Some verb) specs is = line_said (specs_of line) specs (chosen (bytes_eq verb (codes "specs")) (specs_on_line 1 Specs (specs_of line)) (Unknown 1) (Specs specs) is).1
-
-value_said : (line : List ℕ) (d : Option Data) (specs : SpecLists) → event_in 1 line d ≡ Ok (Specs specs) → specs_of line ≡ Ok specs
-value_said line None specs is = absurd (cc)
-value_said line (Some d) specs is = verb_said line d (option_and_then as_str (get (codes "do") d)) specs is
-
--- what the first line says is what is read of it
-pub specs_said : (line : List ℕ) (specs : SpecLists) → event_of 1 line ≡ Ok (Specs specs) → specs_of line ≡ Ok specs
-unfolding event_of
-specs_said line specs is =
-    let c = chosen (nat_le 1 max_lines && nat_le (length line) max_line) (event_in 1 line (json_of line)) (Limit 1) (Specs specs) is in
-    value_said line (json_of line) specs c.1
-
 -- ---- lines that are too long
 
 not_within : (a : Bool) (n m : ℕ) → m < n → (a && nat_le n m) ≡ false

@@ -17,7 +17,7 @@ use Rattle.gz_fields.specs.Form.{is_between}
 use Rattle.gz_spec.specs.Valid.{are_sources, are_shard_labels, is_shard}
 use Rattle.gz_spec.specs.declared.framing.Framing.{Framing}
 use Rattle.gz_spec.specs.Records.{JournalSpec, SourceSpec, ShardSpec}
-use Rattle.gz_plain.specs.Journals.{is_journal}
+use Rattle.gz_promise.specs.Journals.{is_journal}
 use Rattle.gz_promise.specs.Names.{Apart}
 use Rattle.gz_plain.specs.Running.{journals_of}
 use Rattle.gz_plain.specs.Runs.{ArePresent, all_empty}

@@ -9,11 +9,12 @@ use Rattle.gz_scenario.specs.declared.error.ScenarioError.{ScenarioError}
 use Rattle.gz_scenario.specs.declared.error.ScenarioError.TheVariants.{Limit}
 use Rattle.gz_scenario.specs.declared.event.Event.{Event}
 use Rattle.gz_scenario.specs.declared.event.Event.TheVariants.{Specs as Begins, Publish, Settle, Apply, Join, Expire}
-use Rattle.gz_plain.specs.Order.{AllRest, AreInOrder, wirings_of}
-use Rattle.gz_plain.specs.Promise.{AllExactlyOnce}
+use Rattle.gz_promise.specs.Order.{AreInOrder}
+use Rattle.gz_plain.specs.Rests.{AllRest, wirings_of}
+use Rattle.gz_plain.specs.Promise.{AllCommitLines, AllExactlyOnce, AllServe}
 use Rattle.gz_plain.specs.Reports.{AllTellCaught, AllUpToDate}
 use Rattle.gz_plain.specs.Shards as shards
-use Rattle.gz_plain.proofs.Promises.{all_exactly_once_after, all_rest_after, all_tell_after, all_up_to_date_after}
+use Rattle.gz_plain.proofs.Promises.{all_exactly_once_after, all_lines_after, all_serve, all_rest_after, all_tell_after, all_up_to_date_after}
 use Rattle.gz_world.specs.Worlds.{World, world_start, settled, after, IsRun}
 use Rattle.gz_world.specs.Run.{max_input, started, judged, judged_first, run, outcome_from, AreSaid, IsSaid}
 use Rattle.gz_world.proofs.Events.{step, same_ok, passed}
@@ -123,6 +124,14 @@ pub run_once : (v : World) → IsRun v → AllExactlyOnce v.cluster.journals v.c
 run_once v r =
     let t = run_is_tied v r in
     subst (λ (c : shards.World). AllExactlyOnce c.journals c.shards) (sym t.reached) (all_exactly_once_after t.happened t.may)
+
+pub run_serves : (v : World) → IsRun v → AllServe v.cluster.journals v.cluster.shards
+run_serves v r = all_serve v.cluster.journals v.cluster.shards (run_once v r)
+
+pub run_lines : (v : World) → IsRun v → AllCommitLines v.cluster.journals v.cluster.shards
+run_lines v r =
+    let t = run_is_tied v r in
+    subst (λ (c : shards.World). AllCommitLines c.journals c.shards) (sym t.reached) (all_lines_after t.happened t.may)
 
 -- writers come before readers
 ordered : (v : World) (r : IsRun v) → AreInOrder (run_is_tied v r).ranked.0 (wirings_of v.cluster.shards)

@@ -9,7 +9,8 @@ use Rattle.gz_links.specs.declared.error.SpecError.{SpecError}
 use Rattle.gz_links.proofs.Joining.{join_is_valid, join_is_linked}
 use Rattle.gz_scenario.specs.Lawful.{is_start, is_apply}
 use Rattle.gz_plain.specs.Definitions.{Definition, definition_of}
-use Rattle.gz_plain.specs.Journals.{appended}
+use Rattle.gz_label.specs.declared.entry.Attempt.{Attempt}
+use Rattle.gz_promise.specs.Journals.{appended}
 use Rattle.gz_plain.specs.Places.{names_of}
 use Rattle.gz_plain.specs.Runs.{continues, nothing, changed}
 use Rattle.gz_plain.specs.Shards as shards
@@ -34,9 +35,6 @@ change_specified specs names w valid named = record {
 
 pub cluster_specified : (specs : Specs) → are_specs specs ≡ true → IsSpecified specs (cluster_start specs)
 cluster_specified specs valid = change_specified specs (names_of_journals specs.journals) nothing valid refl
-
-pub start_specified : (specs : Specs) → is_start specs ≡ true → IsSpecified specs (cluster_start specs)
-start_specified specs good = cluster_specified specs (start_whole specs good).valid
 
 -- ---- more specifications
 
@@ -124,10 +122,10 @@ join_changes specs more all w t good is = record {
 
 -- ---- events
 
-pub landed_specified : (specs : Specs) (w : shards.World) (b : Bool) (name content : List ℕ) → IsSpecified specs w
-    → IsSpecified specs (record w { journals = cond b (appended name content w.journals) w.journals })
-landed_specified specs w true name content t = record { valid = t.valid; names = names_appended name content w.journals ∙ t.names; said = t.said }
-landed_specified specs w false name content t = record { valid = t.valid; names = t.names; said = t.said }
+pub landed_specified : (attempt : Attempt) (specs : Specs) (w : shards.World) (b : Bool) (name content : List ℕ) → IsSpecified specs w
+    → IsSpecified specs (record w { journals = cond b (appended attempt name content w.journals) w.journals })
+landed_specified attempt specs w true name content t = record { valid = t.valid; names = names_appended attempt name content w.journals ∙ t.names; said = t.said }
+landed_specified attempt specs w false name content t = record { valid = t.valid; names = t.names; said = t.said }
 
 pub settled_specified : (specs : Specs) (w : shards.World) → IsSpecified specs w → IsSpecified specs (shards.settled w)
 settled_specified specs w t = record { valid = t.valid; names = names_settled w ∙ t.names; said = definitions_settled w ∙ t.said }

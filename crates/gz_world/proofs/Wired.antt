@@ -16,7 +16,8 @@ use Rattle.gz_spec.specs.Valid.{are_fresh}
 use Rattle.gz_spec.specs.Records.{SourceSpec, ShardSpec}
 use Rattle.gz_plain.specs.Definitions as plain
 use Rattle.gz_plain.specs.Definitions.{Definition}
-use Rattle.gz_plain.specs.Order.{Wiring, wiring_of, wirings_of, IsBeside, AreBefore, AllBefore, AllBelow, AreInOrder}
+use Rattle.gz_promise.specs.Order.{Wiring, IsBeside, AreBefore, AllBefore, AllBelow, AreInOrder}
+use Rattle.gz_plain.specs.Rests.{wiring_of, wirings_of}
 use Rattle.gz_promise.specs.Names.{Apart}
 use Rattle.gz_plain.specs.Shards.{Shard}
 use Rattle.gz_plain.proofs.Starts.{unequal}

@@ -1,6 +1,6 @@
 -- What is promised of the world of a run.
-use Rattle.gz_plain.specs.Promise.{AllExactlyOnce}
-use Rattle.gz_plain.specs.Order.{AllRest}
+use Rattle.gz_plain.specs.Promise.{AllCommitLines, AllExactlyOnce, AllServe}
+use Rattle.gz_plain.specs.Rests.{AllRest}
 use Rattle.gz_plain.specs.Reports.{AllTellCaught, AllUpToDate}
 use Rattle.gz_world.specs.Worlds.{World, IsRun, settled}
 
@@ -9,6 +9,11 @@ pub record KeepsPromise (w : World) : Type 0 where
   pub run : IsRun w
   -- each shard that kept its definition is exactly once, and nothing is missing at the readers of its outputs
   pub once : AllExactlyOnce w.cluster.journals w.cluster.shards
+  -- Its users are served: of a client that writes transactions, or messages one by one, a prefix of its messages is read,
+  -- each once, in its order; and with `count` a key's number is how often it stands in the read order.
+  pub users : AllServe w.cluster.journals w.cluster.shards
+  -- each offset of a commit is the end of a whole line of its source
+  pub lines : AllCommitLines w.cluster.journals w.cluster.shards
   -- a settle ends with each of these shards at rest
   pub rests : AllRest (settled w).cluster.journals (settled w).cluster.shards
   -- each of them is told `caught` exactly where nothing that its sources have committed is left to read

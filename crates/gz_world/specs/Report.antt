@@ -8,8 +8,10 @@ use Rattle.gz_spec.specs.Framings.{framing_in}
 use Rattle.gz_spec.specs.declared.framing.Framing.{Framing}
 use Rattle.gz_spec.specs.declared.framing.Framing.TheVariants.{Lines, FixedFrames, RecoveryLog, Bytes}
 use Rattle.gz_spec.specs.Records.{JournalSpec}
-use Rattle.gz_client.specs.Answers.{answer_text}
-use Rattle.gz_plain.specs.Journals.{Journal, text_of}
+use Rattle.gz_label.specs.declared.entry.Entry.{Entry}
+use Rattle.gz_journal.specs.JournalList.{text_of, end_of, registers_of}
+use Rattle.gz_client.specs.Answers.{answer_text, labels_text}
+use Rattle.gz_promise.specs.Journals.{Journal, entries_of}
 use Rattle.gz_plain.specs.Reports as plain
 use Rattle.gz_plain.specs.Shards as shards
 use Rattle.gz_plain.specs.declared.report.ShardReport.{ShardReport}
@@ -44,13 +46,15 @@ put_journals (j ∷ js) entries = put_journals js (insert_entry (slice_cmp nat_c
 abbrev pub in_name_order : List JournalSpec → List (List ℕ × Framing)
 in_name_order journals = put_journals journals []
 
--- `journal NAME END COMMITTED -`, where `-` stands for no registers
-abbrev pub journal_of : List ℕ → ℕ → ℕ → List ℕ
-journal_of name end committed = codes "journal " ++ name ++ codes " " ++ decimal end ++ codes " " ++ decimal committed ++ codes " -\n"
+-- `journal NAME END COMMITTED REGISTERS`
+abbrev pub journal_of : List ℕ → ℕ → ℕ → List ℕ → List ℕ
+journal_of name end committed registers =
+    codes "journal " ++ name ++ codes " " ++ decimal end ++ codes " " ++ decimal committed ++ codes " " ++ registers ++ codes "\n"
 
--- END is the end of the journal's text, and COMMITTED the number of its committed messages
-abbrev pub journal_text : List ℕ → List ℕ → List ℕ
-journal_text name text = journal_of name (length text) (plain.count_committed text)
+-- END is the end of the journal's text, COMMITTED the number of its committed messages, and REGISTERS its registers, or `-`
+-- where there are none
+abbrev pub journal_text : List ℕ → List Entry → List ℕ
+journal_text name entries = journal_of name (end_of entries) (plain.count_committed (text_of entries)) (labels_text (registers_of entries))
 
 -- a recovery log has no line
 abbrev pub line_if : Framing → List ℕ → List ℕ
@@ -60,7 +64,7 @@ line_if RecoveryLog line = []
 line_if Bytes line = line
 
 abbrev pub journal_line : List Journal → List ℕ × Framing → List ℕ
-journal_line js e = line_if e.1 (journal_text e.0 (text_of e.0 js))
+journal_line js e = line_if e.1 (journal_text e.0 (entries_of e.0 js))
 
 -- ---- shards
 

@@ -17,7 +17,7 @@ use Rattle.gz_plain.specs.Definitions.{Definition}
 use Rattle.gz_plain.specs.Places.{names_of}
 use Rattle.gz_plain.specs.Runs.{nothing, changed}
 use Rattle.gz_plain.specs.Shards as plain
-use Rattle.gz_plain.specs.Sources.{Source}
+use Rattle.gz_promise.specs.Sources.{Source}
 
 -- ---- the order of shards
 

@@ -23,9 +23,8 @@ use Rattle.gz_client.specs.Answers.{refusal_of, answer_of, stands}
 use Rattle.gz_client.specs.Requests.{request_of}
 use Rattle.gz_client.specs.declared.answer.Answer.{Answer}
 use Rattle.gz_client.specs.declared.answer.Answer.TheVariants as client
-use Rattle.gz_journal.specs.JournalList.{judgement}
 use Rattle.gz_journal.specs.declared.request.Request.{Request}
-use Rattle.gz_plain.specs.Journals.{Journal, text_of, appended}
+use Rattle.gz_promise.specs.Journals.{Journal, answer_in, appended}
 use Rattle.gz_plain.specs.Shards as plain
 use Rattle.gz_world.specs.declared.reply.Reason.{Reason}
 use Rattle.gz_world.specs.declared.reply.Reason.TheVariants.{NameUsed, NoRoute, BadSpecs, MembersFull, NoMember, KeysEnd}
@@ -71,19 +70,21 @@ refused line reason w = record w { told = w.told ++ Refused line reason ∷ [] }
 abbrev pub is_taken : List ℕ → Registered → Bool
 is_taken name registry = was_member name registry.members || is_reserved name
 
--- What a client is told of its request: why the journal isn't asked, where it isn't, and otherwise its judgement. Journals
--- of the cluster have no registers.
-abbrev pub answer_to : Request → Published → World → Answer
-answer_to r p w =
-    answer_of (refusal_of (is_taken p.client w.registry) (framing_at w.specs.journals p.journal) (length r.content))
-    (judgement (length (text_of p.journal w.cluster.journals)) [] r).landed
+-- why a journal isn't asked to append the request's content, where it isn't
+abbrev pub refusal_to : Request → Published → World → Option Answer
+refusal_to r p w = refusal_of (is_taken p.client w.registry) (framing_at w.specs.journals p.journal) (length r.content)
 
--- the content stands behind the journal, where the answer says so
-abbrev pub landed : Answer → List ℕ → List ℕ → List Journal → List Journal
-landed answer journal content js = if stands answer then appended journal content js else js
+-- What a client is told of its request: why the journal isn't asked, where it isn't, and otherwise what the journal judges
+-- of it, by its entries.
+abbrev pub answer_to : Request → Published → World → Answer
+answer_to r p w = answer_of (refusal_to r p w) (answer_in p.journal r w.cluster.journals)
+
+-- where the answer says so, the content is one entry of the request's attempt behind the journal's, and nothing else changes
+abbrev pub landed : Answer → List ℕ → Request → List Journal → List Journal
+landed answer journal r js = if stands answer then appended r.attempt journal r.content js else js
 
 abbrev pub with_landed : Answer → Request → Published → World → World
-with_landed answer r p w = record w { cluster = record w.cluster { journals = landed answer p.journal r.content w.cluster.journals } }
+with_landed answer r p w = record w { cluster = record w.cluster { journals = landed answer p.journal r w.cluster.journals } }
 
 -- A name that isn't free refuses the event, and so does a journal that isn't there.
 abbrev pub reason_of : Answer → Option Reason
@@ -110,7 +111,7 @@ published line p w = answered (answer_to (request_of line p) p w) (request_of li
 
 -- ---- more specifications
 
--- Why the key space refuses. Want of memory is no refusal, so what is said of it here is never told.
+-- Why the key space refuses. Running out of memory is no refusal, so what is said of it here is never told.
 abbrev pub registry_reason : RegistryError → Reason
 registry_reason registry.MembersFull = MembersFull
 registry_reason registry.NoMember = NoMember

@@ -1,7 +1,7 @@
 //! What a run promises.
 ghost use Rattle.std.specs.Prelude.{◌≡◌, List, ℕ, Ok, Some};
-ghost use Rattle.gz_plain.specs.Promise.{AllExactlyOnce};
-ghost use Rattle.gz_plain.specs.Order.{AllRest};
+ghost use Rattle.gz_plain.specs.Promise.{AllCommitLines, AllExactlyOnce, AllServe};
+ghost use Rattle.gz_plain.specs.Rests.{AllRest};
 ghost use Rattle.gz_plain.specs.Reports.{AllTellCaught, AllUpToDate};
 ghost use Rattle.gz_world.specs.Worlds.{World, IsRun, settled};
 ghost use Rattle.gz_world.specs.Run.{outcome_from, IsSaid};
@@ -16,10 +16,14 @@ pub fn a_world_is_the_run_of_its_events()
 
 /// Whatever events a run had, whatever journals and shards they added or changed on the way: of each shard that kept the
 /// definition that it began with, each committed message of its sources is taken once and in order, its store is the
-/// application's fold over them, and readers of its outputs accept what the application emits for them.
-#[tactic(auto, using(crate::proofs::Promises::run_once))]
+/// application's fold over them, and readers of its outputs accept what the application emits for them. A client that
+/// writes transactions, or messages one by one, is read as it wrote, each message once. Each offset of a commit is the
+/// end of a whole line.
+#[tactic(auto, using(crate::proofs::Promises::run_once, crate::proofs::Promises::run_serves, crate::proofs::Promises::run_lines))]
 pub fn every_run_is_exactly_once()
-    ensures { (w : World) → IsRun w → AllExactlyOnce w.cluster.journals w.cluster.shards }
+    ensures once { (w : World) → IsRun w → AllExactlyOnce w.cluster.journals w.cluster.shards }
+    ensures users { (w : World) → IsRun w → AllServe w.cluster.journals w.cluster.shards }
+    ensures lines { (w : World) → IsRun w → AllCommitLines w.cluster.journals w.cluster.shards }
 {}
 
 /// Whatever events a run had: a settle after them ends with each shard that kept its definition at rest. It is disabled,

@@ -1,4 +1,11 @@
 //! Replays: the lines of a scenario, what they make of a world, and its report.
+//!
+//! ```text
+//! match replay(alloc, &mut input)? {                          // a line at a time; a refused one is told with its number
+//!     Some(world) => write_all(output, world.report(alloc)?.as_slice()),
+//!     None => Ok(()),                                         // there was no line
+//! }
+//! ```
 #![tactic(auto)]
 
 mod judge;

@@ -1,13 +1,13 @@
 //! The report of a world.
 ghost use Rattle.std.specs.Prelude.{◌≡◌, ◌++◌, map, flat_map, IfOk, OnOk};
-ghost use Rattle.gz_plain.specs.Journals.{text_of};
+ghost use Rattle.gz_promise.specs.Journals.{entries_of};
 ghost use Rattle.gz_plain.specs.Reports.{report_of as report_of_shard};
 ghost use Rattle.gz_world.specs.declared.reply.Told.TheVariants.{Replied, Refused};
 ghost use Rattle.gz_world.specs.Report.{reason_text, told_line, in_name_order, journal_of, journal_text, journal_line, status_of, shard_line, shard_lines, report_from};
 
 use crate::judge::journal_in;
 use crate::reply::{Reason, Told};
-use gz_client::Answer;
+use gz_client::{Answer, print_labels};
 use gz_label::{Blob, Name, NoMemory};
 use gz_plain::{Cluster, ShardReport, count_committed};
 use gz_spec::{Framing, JournalSpec};
@@ -107,24 +107,35 @@ fn print_line(
     name: &Name,
     end: u64,
     committed: usize,
+    registers: &[u8],
 ) -> Result<(), NoMemory>
-    ensures { OnOk result (out.new ≡ out.old ++ journal_of name.now end committed) }
+    ensures { OnOk result (out.new ≡ out.old ++ journal_of name.now end committed registers.now) }
 {
     let name = name.as_str();
-    let line = format!(in alloc; "journal {name} {end} {committed} -\n")?;
-    out.append(line.as_bytes())
+    let head = format!(in alloc; "journal {name} {end} {committed} ")?;
+    out.append(head.as_bytes())?;
+    out.append(registers)?;
+    out.append(b"\n")
 }
 
 fn print_text(alloc: Global, out: &mut Blob, cluster: &Cluster, name: &Name) -> Result<(), NoMemory>
     ensures { OnOk result
-        (out.new ≡ out.old ++ journal_text name.now (text_of name.now cluster.now.journals)) }
+        (out.new ≡ out.old ++ journal_text name.now (entries_of name.now cluster.now.journals)) }
 {
     match journal_in(cluster, name.as_slice()) {
         Some(journal) => {
             let committed = count_committed(alloc, journal)?;
-            print_line(alloc, out, name, journal.end(), committed)
+            let registers = print_labels(alloc, journal.registers())?;
+            print_line(
+                alloc,
+                out,
+                name,
+                journal.end(),
+                committed,
+                registers.as_slice(),
+            )
         }
-        None => print_line(alloc, out, name, 0, 0),
+        None => print_line(alloc, out, name, 0, 0, b"-"),
     }
 }
 

@@ -3,13 +3,14 @@ ghost use Rattle.std.specs.Prelude.{◌≡◌, Ok, IfOk, OnOk, IsTrue};
 ghost use Rattle.gz_links.specs.Joins.{join_of};
 ghost use Rattle.gz_scenario.specs.Lawful.{is_start, is_publish, is_apply, is_joiner, is_event};
 ghost use Rattle.gz_client.specs.Requests.{request_of};
+ghost use Rattle.gz_journal.specs.JournalList.{plain};
 ghost use Rattle.gz_registry.specs.Registered.{put_answer};
 ghost use Rattle.gz_world.specs.declared.reply.Applied.TheVariants as applied;
 ghost use Rattle.gz_world.specs.Starts.{IsSpecified};
-ghost use Rattle.gz_world.specs.Worlds.{world_start, refused, answer_to, with_landed, reason_of, replied, told_of, published, registered, judged_apply, with_specs, is_consumer, judged_join, judged_expire, with_registry, settled, done, after, IsRun, applied_if, applied_unless, applied_of};
+ghost use Rattle.gz_world.specs.Worlds.{world_start, refused, refusal_to, answer_to, with_landed, reason_of, replied, told_of, published, registered, judged_apply, with_specs, is_consumer, judged_join, judged_expire, with_registry, settled, done, after, IsRun, applied_if, applied_unless, applied_of};
 ghost use Rattle.gz_world.specs.Report.{report_of};
 
-use crate::judge::{is_taken, judge_in, reason_of};
+use crate::judge::{is_taken, reason_of};
 use crate::reply::{Applied, Reason, Told};
 use crate::{report, start};
 use gz_client::{Answer, refusal, request_of};
@@ -89,37 +90,36 @@ impl World {
         Ok(Applied::Refused(reason))
     }
 
-    /// What a client is told of its request: why its journal isn't asked, where it isn't, and otherwise what that judges.
-    /// Nothing is changed.
-    fn judge(&self, alloc: Global, publish: &Publish, request: &Request) -> Result<Answer, NoMemory>
-        ensures { IfOk result (λ answer. answer ≡ answer_to request.now publish.now self.now) }
+    /// Why the journal isn't asked; None exactly where it is.
+    fn refuse_request(&self, publish: &Publish, request: &Request) -> Option<Answer>
+        ensures { result ≡ refusal_to request.now publish.now self.now }
     {
         let is_taken = is_taken(&publish.client, &self.registry);
         let framing = framing_at(self.specs.journals.as_slice(), publish.journal.as_slice());
-        match refusal(is_taken, framing, request.content.len() as u64) {
-            Some(answer) => Ok(answer),
-            None => {
-                let journal = publish.journal.as_slice();
-                let judged = judge_in(alloc, &self.cluster, journal, request)?;
-                Ok(Answer::Judged(judged))
-            }
-        }
+        refusal(is_taken, framing, request.content.len() as u64)
     }
 
-    /// Puts the content of the request behind the journal, where it answered that it landed, as an entry of its attempt.
-    fn land(&mut self, answer: &Answer, publish: &Publish, request: Request) -> Result<(), NoMemory>
-        ensures { OnOk result (self.new ≡ with_landed answer.now request publish.now self.old) }
+    /// Asks the journal to append the content as an entry of the request's attempt, unless there is something to refuse
+    /// before.
+    #[tactic(auto, using(crate::proofs::Refusals::refused_lands))]
+    fn land(&mut self, publish: &Publish, request: Request) -> Result<Answer, NoMemory>
+        requires { request ≡ plain request.attempt request.content }
+        ensures answer { IfOk result (λ answer. answer ≡ answer_to request publish.now self.old) }
+        ensures landed { OnOk result
+            (self.new ≡ with_landed
+            (answer_to request publish.now self.old) request publish.now self.old) }
     {
-        if !answer.is_landed() {
-            return Ok(());
+        if let Some(answer) = self.refuse_request(publish, &request) {
+            return Ok(answer);
         }
         let Request {
             attempt,
             content,
             ..
         } = request;
-        self.cluster
-            .append(publish.journal.as_slice(), attempt, content)
+        let journal = publish.journal.as_slice();
+        let landed = self.cluster.append(journal, attempt, content)?;
+        Ok(Answer::Judged(landed))
     }
 
     /// Tells a client its answer. The client has asked from then on.
@@ -160,8 +160,7 @@ impl World {
         ensures done { OnOk result (self.new ≡ published line publish.now self.old) }
     {
         let request = request_of(alloc, line, publish)?;
-        let answer = self.judge(alloc, publish, &request)?;
-        self.land(&answer, publish, request)?;
+        let answer = self.land(publish, request)?;
         self.tell(line, &publish.client, answer)
     }
 

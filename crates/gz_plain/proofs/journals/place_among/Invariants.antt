@@ -1,5 +1,5 @@
 use Rattle.std.proofs.Common.{◌≡◌, ◌+◌, drop}
-use Rattle.gz_plain.specs.Journals.{place_of}
+use Rattle.gz_promise.specs.Journals.{place_of}
 use Rattle.gz_plain.proofs.journals.place_among.Given as goal
 
 abbrev pub invariant-loop-i : goal.invariant-loop-i

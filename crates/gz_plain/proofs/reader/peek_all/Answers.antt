@@ -1,5 +1,5 @@
 use Rattle.std.proofs.Common.{◌≡◌, ◌+◌, ◌∙◌, ◌∷◌, ap, sym, subst, drop, List, ℕ}
-use Rattle.gz_plain.specs.Journals.{Journal, text_at}
+use Rattle.gz_promise.specs.Journals.{Journal, text_at}
 use Rattle.gz_plain.specs.Readers.{AreRead, IsRead, text_for}
 use Rattle.gz_plain.specs.declared.reader.Reader.{Reader}
 use Rattle.gz_plain.proofs.Places.{text_of_is}

@@ -1,5 +1,5 @@
 use Rattle.std.proofs.Common.{◌∙◌, ap, List, ℕ}
-use Rattle.gz_plain.specs.Journals.{place_of}
+use Rattle.gz_promise.specs.Journals.{place_of}
 use Rattle.gz_plain.proofs.Redefining.{end_is}
 use Rattle.gz_plain.proofs.redefine.end_of.Goals as goal
 

@@ -1,7 +1,7 @@
 use Rattle.std.proofs.Common.{◌∙◌, ◌++◌, ap, List, ℕ}
 use Rattle.gz_frame.specs.Messages.{Message}
 use Rattle.gz_sequencer.specs.Machine.{point_of}
-use Rattle.gz_plain.specs.Journals.{place_of}
+use Rattle.gz_promise.specs.Journals.{place_of}
 use Rattle.gz_plain.proofs.Redefining.{reached_count, reached_reader, within_text}
 use Rattle.gz_plain.proofs.redefine.reach.Goals as goal
 

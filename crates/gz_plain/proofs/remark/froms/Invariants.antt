@@ -1,6 +1,6 @@
 use Rattle.std.proofs.Common.{◌≡◌, ◌++◌, drop, map}
 use Rattle.gz_plain.specs.Seen.{source_of}
-use Rattle.gz_plain.specs.Sources.{froms_of}
+use Rattle.gz_promise.specs.Sources.{froms_of}
 use Rattle.gz_plain.proofs.remark.froms.Given as goal
 
 abbrev pub invariant-loop-reader : goal.invariant-loop-reader

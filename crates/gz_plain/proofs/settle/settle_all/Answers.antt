@@ -3,7 +3,7 @@ use Rattle.gz_plain.specs.Places.{names_of}
 use Rattle.gz_plain.specs.Running.{AllKept}
 use Rattle.gz_promise.specs.Names.{Distinct}
 use Rattle.gz_plain.specs.declared.shard.Shard.{Shard}
-use Rattle.gz_plain.proofs.Settling.{IsSettling, settle_start, settle_turn, settle_quiet, settle_done}
+use Rattle.gz_plain.proofs.Settling.{IsSettling, settle_start, settle_turn, settle_quiet}
 use Rattle.gz_plain.proofs.settle.settle_all.Goals as goal
 
 pub loop-i-init : goal.loop-i-init

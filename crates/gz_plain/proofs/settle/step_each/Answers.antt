@@ -3,7 +3,7 @@ use Rattle.gz_plain.specs.Places.{names_of}
 use Rattle.gz_plain.specs.Running.{AllKept, IsKept}
 use Rattle.gz_promise.specs.Names.{Distinct}
 use Rattle.gz_plain.specs.declared.shard.Shard.{Shard}
-use Rattle.gz_plain.proofs.Settling.{IsRound, round_start, round_turn, round_done, round_quiet}
+use Rattle.gz_plain.proofs.Settling.{round_turn}
 use Rattle.gz_plain.proofs.settle.step_each.Goals as goal
 
 pub step-requires-clause-names : goal.step-requires-clause-names

@@ -1,6 +1,4 @@
-use Rattle.std.proofs.Common.{rules, arith, ◌≡◌, ◌+◌, ◌∙◌, inl, inr, length, take, drop, ap, sym, List}
-use Rattle.gz_label.specs.declared.label.Label.{Label}
-use Rattle.gz_journal.specs.JournalList.{end_of}
+use Rattle.std.proofs.Common.{rules, arith, ◌≡◌, ◌+◌, ◌∙◌, inl, inr, length, take, drop, ap, sym}
 use Rattle.gz_spool.specs.Spools.{registers_behind, rest_from}
 use Rattle.gz_spool.proofs.Ends.{end_step, rest_step, rest_found, rest_lost}
 use Rattle.gz_spool.proofs.spool.count_before.Goals as goal

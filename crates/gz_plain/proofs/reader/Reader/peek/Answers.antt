@@ -1,6 +1,6 @@
 use Rattle.std.proofs.Common.{◌≡◌, ◌++◌, ◌-◌, ◌∙◌, ap, sym, List, ℕ, length, append-nil, arith}
 use Rattle.gz_frame.specs.Messages.{Message}
-use Rattle.gz_plain.specs.Journals.{text_at}
+use Rattle.gz_promise.specs.Journals.{text_at}
 use Rattle.gz_plain.specs.declared.reader.Reader.{Reader}
 use Rattle.gz_plain.proofs.Reading.{no_news, behind_len, resumes_in_text, resumed_news, reading_more}
 use Rattle.gz_plain.proofs.reader.Reader.peek.Goals as goal

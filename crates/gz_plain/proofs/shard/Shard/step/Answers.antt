@@ -1,7 +1,7 @@
 use Rattle.std.proofs.Common.{◌≡◌, ◌++◌, ◌+◌, ◌<◌, ◌^◌, ◌∙◌, List, [], length, nat_lt, ap, sym, subst, arith}
 use Rattle.gz_frame.specs.Messages.{Message}
 use Rattle.gz_promise.specs.Applications.{emitted}
-use Rattle.gz_plain.specs.Journals.{Journal}
+use Rattle.gz_promise.specs.Journals.{Journal}
 use Rattle.gz_plain.specs.Readers.{all_news}
 use Rattle.gz_plain.specs.Running.{IsCommitted, IsKept, read_further, read_up}
 use Rattle.gz_plain.specs.Seen.{shard_of}

@@ -1,4 +1,4 @@
-use Rattle.std.proofs.Common.{rules, arith, ◌≡◌, ◌<◌, length}
+use Rattle.std.proofs.Common.{rules, arith, ◌<◌, length}
 use Rattle.gz_spool.proofs.Ends.{registers_last}
 use Rattle.gz_spool.proofs.spool.Spool.registers.Goals as goal
 

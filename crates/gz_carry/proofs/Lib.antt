@@ -1,0 +1,17 @@
+pub mod Ends
+pub mod Fitting
+pub mod Trimming
+pub mod Sends
+pub mod Heads
+pub mod Choice
+pub mod Adopting
+pub mod Members
+pub mod Openings
+pub mod Primary
+pub mod Runs
+pub mod Numbers
+pub mod Apart
+pub mod Rows
+pub mod Messages
+pub mod Redelivery
+pub mod Resending

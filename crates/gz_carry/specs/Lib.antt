@@ -1,0 +1,4 @@
+pub mod Seen
+pub mod Histories
+pub mod Carried
+pub mod Taking

@@ -1,0 +1,12 @@
+pub mod Changing
+pub mod Forms
+pub mod Leaving
+pub mod Moves
+pub mod Once
+pub mod Order
+pub mod Placing
+pub mod Reading
+pub mod Rounds
+pub mod Rows
+pub mod Steady
+pub mod Tables

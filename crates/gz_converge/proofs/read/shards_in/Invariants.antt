@@ -1,0 +1,7 @@
+use Rattle.std.proofs.Common.{◌≡◌, ◌++◌, drop, map}
+use Rattle.std.specs.Prelude.{filter_map}
+use Rattle.gz_converge.specs.Views.{row_of, shard_in}
+use Rattle.gz_converge.proofs.read.shards_in.Given as goal
+
+abbrev pub invariant-loop-row : goal.invariant-loop-row
+invariant-loop-row l = l.shards.items ++ filter_map (shard_in l.keys.keys) (map (λ row. row_of row.0.now row.1.now row.2) (drop l.row-index l.rows)) ≡ filter_map (shard_in l.keys.keys) (map (λ row. row_of row.0.now row.1.now row.2) l.rows)

@@ -1,0 +1,4 @@
+pub mod Cases
+pub mod Converged
+pub mod Views
+pub mod Steps
