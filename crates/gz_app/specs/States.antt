@@ -1,5 +1,7 @@
 -- The state of an application: what it keeps of each key.
-use Rattle.std.specs.Prelude.{ℕ, List, [], ◌∷◌, Option, Some, None}
+use Rattle.std.specs.Prelude.{ℕ, ◌≤◌, List, [], ◌∷◌, length, Option, Some, None}
+use Rattle.std.specs.List.{AllByRecursion}
+use Rattle.std.specs.List.Sorted.{IsStrictlySortedBy}
 use Rattle.std.specs.Ordering.{nat_cmp}
 use Rattle.std.specs.Cmp.Lexicographic.{slice_cmp}
 use Rattle.std.specs.Map.{lookup}
@@ -41,3 +43,8 @@ put_all (e ∷ state) members = put_all state (put e.0 (kept_data e.1) members)
 -- the state as JSON: an object with a member for each key
 abbrev pub state_data : State → Data
 state_data state = object (put_all state no_members)
+
+-- keys are in their order, each once, and have at most 1,024 bytes
+pub record AreKeys (keys : List (List ℕ)) : Type 0 where
+  pub ordered : IsStrictlySortedBy (slice_cmp nat_cmp) keys
+  pub short : AllByRecursion (λ key. length key ≤ 1024) keys

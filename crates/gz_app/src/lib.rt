@@ -18,4 +18,4 @@ mod tests;
 pub use app::{App, AppKind, Count, Latest, Relay, app_of};
 pub use laws::fold_of_joined_messages;
 pub use output::{Output, Outputs};
-pub use state::{Kept, State, Text, print_state};
+pub use state::{Kept, State, Text, print_state, state_value};

@@ -3,7 +3,8 @@ ghost use Rattle.std.specs.Prelude.{◌≡◌, ◌≤◌, [], length, false, IfO
 ghost use Rattle.serde_json.specs.Data.{put};
 ghost use Rattle.serde_json.specs.View.{view, members_view};
 ghost use Rattle.serde_json.specs.Written.{compact_text, has_float};
-ghost use Rattle.gz_app.specs.States.{kept_at, keep, number_at, kept_data, state_data};
+ghost use Rattle.std.specs.Map.{keys_of};
+ghost use Rattle.gz_app.specs.States.{kept_at, keep, number_at, kept_data, state_data, AreKeys};
 
 use gz_label::{Blob, Name, NoMemory};
 use serde_json::{Map, Value};
@@ -130,15 +131,24 @@ fn put_kept(
     Ok(())
 }
 
-/// The state as compact JSON: an object with a member for each key, in key order, which is what is kept of it.
+/// The state as a JSON value: an object with a member for each key, in key order, which is what is kept of it.
 #[tactic(auto, using(crate::proofs::Floats::no_float))]
+pub fn state_value(alloc: Global, state: &State) -> Result<Value, NoMemory>
+    ensures value { IfOk result (λ value. view value ≡ state_data state.now) }
+    ensures whole { IfOk result (λ value. has_float (view value) ≡ false) }
+    ensures keys { IfOk result (λ _. AreKeys (keys_of state.now)) }
+{
+    let mut members = Map::new(alloc);
+    for (key, kept) in state.entries.iter() {
+        put_kept(alloc, &mut members, key.as_str(), kept)?;
+    }
+    Ok(Value::from(members))
+}
+
+/// The state as compact JSON: an object with a member for each key, in key order, which is what is kept of it.
 pub fn print_state(alloc: Global, state: &State) -> Result<Blob, NoMemory>
     ensures { IfOk result (λ text. text ≡ compact_text (state_data state.now)) }
 {
-    let mut members = Map::new(alloc);
-    for (key, kept) in &state.entries {
-        put_kept(alloc, &mut members, key.as_str(), kept)?;
-    }
-    let value = Value::from(members);
+    let value = state_value(alloc, state)?;
     gz_json::print(alloc, &value)
 }

@@ -31,16 +31,5 @@ pub decoded : (r : Result (List ℕ) FromHexError) (answer : Result Unit FromHex
 decoded (Ok bytes) answer out u h is = ap Ok (sym h.1)
 decoded (Err e) answer out u h is = cc
 
-pub refused : (r : Result (List ℕ) FromHexError) (answer : Result Unit FromHexError) (out : List ℕ) (e : FromHexError)
-    → MatchResult r (λ bytes. (answer ≡ Ok tt) × (out ≡ bytes)) (λ e. answer ≡ Err e) → answer ≡ Err e → r ≡ Err e
-refused (Ok bytes) answer out e h is = cc
-refused (Err d) answer out e h is = cc
-
 pub bytes_from : (text bytes : List ℕ) → list_all is_lower_digit text ≡ true → decode_of text ≡ Ok bytes → bytes_in text ≡ Some bytes
 bytes_from text bytes lower is = ap (λ b. cond b (value_of (decode_of text)) None) lower ∙ ap value_of is
-
-pub no_bytes : (text : List ℕ) (e : FromHexError) → decode_of text ≡ Err e → bytes_in text ≡ None
-no_bytes text e is = step (list_all is_lower_digit text) where
-  step : (b : Bool) → cond b (value_of (decode_of text)) None ≡ None
-  step true = ap value_of is
-  step false = refl

@@ -129,9 +129,3 @@ read_back n name =
     ∙ ap (λ t. cond t (name_with (number_in (take 16 text)) (number_in (take 16 (drop 17 text))) (bytes_in (take 40 (drop 34 text)))) None) form
     ∙ (λ i. name_with (begin i) (end i) (sum i))
     ∙ ap (λ t. cond t (Some n) None) (lt-ltb n.begin n.end name.ordered)
-
-pub text_length : (n : FragmentName) → length n.sum ≡ 20 → length (name_text n) ≡ 78
-text_length n size =
-    let ls : length (encode_lower n.sum) ≡ 40 = length-encode_with lower_digits n.sum ∙ ap (λ k. 2 * k) size in
-    let has = has_parts (digits_of n.begin) (digits_of n.end) (encode_lower n.sum) (codes ".raw") (digits_length n.begin) (digits_length n.end) ls in
-    ap length (nested (digits_of n.begin) (digits_of n.end) (encode_lower n.sum) (codes ".raw")) ∙ omega (arith, has.size, ls)

@@ -22,25 +22,8 @@ is_judged : (es : List Entry) (attempt : Attempt) (content : List ℕ) → regis
     → judged_of es (plain attempt content) ≡ judged_plain (nat_lt max_end (end_of es + length content)) (length content == 0) (end_of es) (plain attempt content)
 is_judged es attempt content none = ap (λ (ls : List Label). judgement (end_of es) ls (plain attempt content)) none
 
-no_bytes : (bs : List ℕ) → (length bs == 0) ≡ true → [] ≡ bs
-no_bytes [] none = refl
-no_bytes (b ∷ bs) none =
-    let same : length (b ∷ bs) ≡ 0 = eqb-true (length (b ∷ bs)) 0 none in
-    absurd (omega (arith, same))
-
 text_behind : (es : List Entry) (e : Entry) → text_of (es ++ e ∷ []) ≡ text_of es ++ e.bytes
 text_behind es e = text_more es (e ∷ []) ∙ ap (λ (bs : List ℕ). text_of es ++ bs) (append-nil e.bytes)
-
-text_landed : (over empty : Bool) (es : List Entry) (r : Request) → is_empty r ≡ empty → is_landed (judged_plain over empty (end_of es) r).landed ≡ true
-    → text_of (appended (judged_plain over empty (end_of es) r) r es) ≡ text_of es ++ r.content
-text_landed true empty es r is landed = cc
-text_landed false true es r is landed = rw (is, ← no_bytes r.content is, append-nil (text_of es)) refl
-text_landed false false es r is landed = rw is (text_behind es (entry_of r []))
-
-same_refused : (over empty : Bool) (es : List Entry) (r : Request) → is_landed (judged_plain over empty (end_of es) r).landed ≡ false
-    → appended (judged_plain over empty (end_of es) r) r es ≡ es
-same_refused true empty es r refused = refl
-same_refused false empty es r refused = cc
 
 registers_plain : (over empty : Bool) (es : List Entry) (r : Request) → is_empty r ≡ empty → registers_of es ≡ [] → registers_of (appended (judged_plain over empty (end_of es) r) r es) ≡ []
 registers_plain true empty es r is none = none
@@ -58,20 +41,6 @@ end_plain false false es r over is short =
     rw is (omega (arith, less, joined))
 
 -- ---- what an append makes of a journal without registers
-
--- where it lands, the content is behind the text
-pub plain_text : (es : List Entry) (attempt : Attempt) (content : List ℕ) → registers_of es ≡ [] → is_landed (judged_of es (plain attempt content)).landed ≡ true
-    → text_of (appended (judged_of es (plain attempt content)) (plain attempt content) es) ≡ text_of es ++ content
-plain_text es attempt content none landed =
-    rw (is_judged es attempt content none)
-    (text_landed (nat_lt max_end (end_of es + length content)) (length content == 0) es (plain attempt content) refl (rw (← is_judged es attempt content none) landed))
-
--- and else the entries stay
-pub plain_refused : (es : List Entry) (attempt : Attempt) (content : List ℕ) → registers_of es ≡ [] → is_landed (judged_of es (plain attempt content)).landed ≡ false
-    → appended (judged_of es (plain attempt content)) (plain attempt content) es ≡ es
-plain_refused es attempt content none refused =
-    rw (is_judged es attempt content none)
-    (same_refused (nat_lt max_end (end_of es + length content)) (length content == 0) es (plain attempt content) (rw (← is_judged es attempt content none) refused))
 
 -- there are still none
 pub plain_registers : (es : List Entry) (attempt : Attempt) (content : List ℕ) → registers_of es ≡ []

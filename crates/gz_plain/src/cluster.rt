@@ -123,7 +123,8 @@ impl Cluster {
     pub fn append(&mut self, name: &[u8], attempt: Attempt, bytes: Blob) -> Result<Landed, NoMemory>
         ensures answer { IfOk result
             (λ landed. landed ≡ answer_in name.now (plain attempt bytes) self.old.journals) }
-        ensures ok { OnOk result (self.new ≡ record self.old { journals = landing attempt name.now bytes self.old.journals }) }
+        ensures ok { OnOk result
+            (self.new ≡ record self.old { journals = landing attempt name.now bytes self.old.journals }) }
         ensures err { OnErr result (self.new ≡ self.old) }
     {
         let place = self.journals.place_of(name);

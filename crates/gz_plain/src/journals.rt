@@ -76,7 +76,8 @@ impl Journal {
     pub fn append(&mut self, attempt: Attempt, bytes: Blob) -> Result<Landed, NoMemory>
         ensures answer { IfOk result
             (λ landed. landed ≡ (judged_of self.old.entries (plain attempt bytes)).landed) }
-        ensures ok { OnOk result (self.new ≡ record self.old { entries = entries_after attempt bytes self.old.entries }) }
+        ensures ok { OnOk result
+            (self.new ≡ record self.old { entries = entries_after attempt bytes self.old.entries }) }
         ensures err { OnErr result (self.new ≡ self.old) }
     {
         let landed = self.state.append(attempt, bytes)?;

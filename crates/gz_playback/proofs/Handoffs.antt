@@ -1,11 +1,10 @@
 -- What a handoff is made of.
-use Rattle.std.proofs.Common.{◌≡◌, ℕ, zero, suc, ◌+◌, ◌*◌, ◌/◌, ◌%◌, ◌^◌, List, [], ◌∷◌, ◌++◌, length, refl, ap, sym, ◌∙◌, arith, ◌≤◌, ◌<◌, Bool, true, false, cond, ◌&&◌, nat_lt, nat_le, slice_index, codes, inl, inr, Result, Ok, Err}
-use Rattle.std.specs.Prelude.{IsTrue}
+use Rattle.std.proofs.Common.{◌≡◌, ℕ, zero, suc, ◌+◌, ◌*◌, ◌/◌, ◌%◌, List, [], ◌∷◌, ◌++◌, length, refl, ap, arith, ◌≤◌, ◌<◌, Bool, true, false, cond, ◌&&◌, nat_lt, nat_le, slice_index, codes, inl, inr, Result, Ok, Err}
 use Rattle.std.specs.List.{list_all}
 use Rattle.std.specs.Char.{digit_char}
 use Rattle.std.specs.Fmt.{decimal}
 use Rattle.std.specs.Int.{w64, to_be_bytes}
-use Rattle.std.proofs.lemmas.Bool.{and_parts, cases_lt, cond_both, leb-true, ltb-true}
+use Rattle.std.proofs.lemmas.Bool.{and_parts, cases_lt, leb-true, ltb-true}
 use Rattle.std.proofs.lemmas.Fmt.{length-decimal-le}
 use Rattle.std.proofs.lemmas.List.{length-append}
 use Rattle.hex.specs.Hex.{IsBytes, encode_with, lower_digits}
@@ -14,10 +13,8 @@ use Rattle.json.specs.Print.{escape_byte, escape_letter, escape}
 use Rattle.serde_json.specs.Data.{string, no_members, member}
 use Rattle.serde_json.specs.Written.{members_text}
 use Rattle.serde_json.proofs.OnLiterals.{serde_json_on_literals}
-use Rattle.gz_label.specs.declared.label.Label.{Label}
 use Rattle.gz_label.specs.Labels.{is_label, is_label_name, is_label_value, is_value_byte, with_label}
 use Rattle.gz_frame.specs.Frame.{frame_of, framed, max_content}
-use Rattle.gz_frame.specs.declared.frame.FrameError.{FrameError}
 use Rattle.gz_frame.specs.declared.frame.FrameError.TheVariants.{TooLong}
 use Rattle.gz_recovery.specs.Operations.{Op, author_text, op_text, number_data, max_seq}
 use Rattle.gz_recovery.specs.declared.op.OpKind.TheVariants.{Handoff}

@@ -212,7 +212,8 @@ impl Reports {
     /// least `opened`, the own one before the others, it is the greatest, by the adopted epoch and then by the
     /// end, and the first of these at a tie. It takes no memory.
     pub fn choose(&self, adopted: u64, own: &Spool, opened: u64) -> Choice
-        ensures { report_chosen result (record { adopted = adopted; image = own.now.image }) self.now
+        ensures { report_chosen result
+            (record { adopted = adopted; image = own.now.image }) self.now
             ≡ better opened (Some (record { adopted = adopted; image = own.now.image }))
             (best opened self.now) }
     {

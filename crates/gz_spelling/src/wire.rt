@@ -186,7 +186,8 @@ impl<const N: usize> Table<N> {
         // What is told is what the bytes begin with.
         ensures begins { IfOk result (λ d. Begins bytes.now d) }
         // What the bytes begin with is told, unless memory runs out.
-        ensures only { (peer : List ℕ) (m : Msg) (more : List ℕ) → HasKind (kind_of m) self.now.rows →
+        ensures only { (peer : List ℕ) (m : Msg) (more : List ℕ) →
+            HasKind (kind_of m) self.now.rows →
             FitsMessage peer m → bytes.now ≡ spelling peer m ++ more →
             Gives (λ d. d) result (Ok (decoded_of peer m)) }
         // Which error it is.

@@ -21,7 +21,9 @@ pub fn put_append(
     add: &LabelSet,
     content: &Blob,
 ) -> Result<(), AllocError>
-    ensures { OnOk result (out.new.items ≡ out.old.items ++ payload (kinds.Append req journal.now epoch offset selector.now take.now add.now content.now)) }
+    ensures { OnOk result
+        (out.new.items ≡ out.old.items ++
+        payload (kinds.Append req journal.now epoch offset selector.now take.now add.now content.now)) }
 {
     put_number(out, req)?;
     put_text(out, journal)?;

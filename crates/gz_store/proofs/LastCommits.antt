@@ -27,7 +27,7 @@ same_inside x y e = ap (λ o. inside x o) e
 
 -- ---- operations of a log, one after another
 
-abbrev after_ops : Fsm → List Op → Option Fsm
+abbrev pub after_ops : Fsm → List Op → Option Fsm
 after_ops s [] = Some s
 after_ops s (op ∷ ops) = option_and_then (λ t. after_ops t ops) (after_op op s)
 
@@ -45,7 +45,7 @@ after_push (first ∷ ops) op s = by (after_op first s) (λ t. after_push ops op
     by (Some t) ih = ih t
 
 -- what isn't accepted is passed over
-after_accepted : (ops : List Op) (s : Fsm) → after_ops s ops ≡ fsm_from s (accepted_from s.next s.author ops)
+pub after_accepted : (ops : List Op) (s : Fsm) → after_ops s ops ≡ fsm_from s (accepted_from s.next s.author ops)
 after_accepted [] s = refl
 after_accepted (op ∷ ops) s = by (accepts s op) refl (λ t. after_accepted ops t)
   where

@@ -1,2 +1,11 @@
 pub mod LastCommits
 pub mod Rows
+pub mod InOrder
+pub mod Back
+pub mod Shapes
+pub mod Lookups
+pub mod Orders
+pub mod Behind
+pub mod Written
+pub mod Pieces
+pub mod Lists

@@ -1,14 +1,15 @@
 -- The operations of a commit; the commits of a log's text, and the store that is recovered from it.
-use Rattle.std.specs.Prelude.{ℕ, zero, suc, ◌+◌, ◌==◌, ◌/◌, List, [], ◌∷◌, ◌++◌, length, take, drop, flat_map, slice_index, Bool, true, false, Option, Some, None, if◌then◌else◌, nat_le, codes, ⊤, ◌≡◌, Result, Ok, Err}
+use Rattle.std.specs.Prelude.{ℕ, zero, suc, ◌+◌, ◌&&◌, List, [], ◌∷◌, ◌++◌, length, take, drop, flat_map, slice_index, Bool, true, false, Option, Some, None, option_map, if◌then◌else◌, nat_le, nat_lt, codes, ⊤, ◌≡◌, Result, Ok, Err}
 use Rattle.std.specs.Str.{bytes_eq}
-use Rattle.gz_frame.specs.Frame.{frame_of}
+use Rattle.gz_frame.specs.Frame.{frame_of, framed}
+use Rattle.gz_frame.specs.declared.frame.FrameError.{FrameError}
 use Rattle.gz_app.specs.States.{State}
 use Rattle.gz_recovery.specs.Operations.{Op, op_text, max_seq}
 use Rattle.gz_recovery.specs.declared.op.OpKind.{OpKind}
 use Rattle.gz_recovery.specs.declared.op.OpKind.TheVariants.{Create, Link, Unlink, Write}
-use Rattle.gz_recovery.specs.Files.{Fsm, new_fsm, accepted, applied, Recorder}
+use Rattle.gz_recovery.specs.Files.{Fsm, new_fsm, fsm_of, named, accepted, applied, Recorder}
 use Rattle.gz_recovery.specs.declared.error.RecordError.{RecordError}
-use Rattle.gz_recovery.specs.declared.error.RecordError.TheVariants.{SeqEnd}
+use Rattle.gz_recovery.specs.declared.error.RecordError.TheVariants.{SeqEnd, NoMemory}
 use Rattle.gz_playback.specs.Playing.{records_of, Player, plays, new_player}
 use Rattle.gz_store.specs.Stores.{Store, store_text, state_path, Loaded, NoState, BadState, Good, load}
 
@@ -24,10 +25,10 @@ max_piece = 65536
 
 -- a byte that goes on with a character
 abbrev pub goes_on : ℕ → Bool
-goes_on b = b / 64 == 2
+goes_on b = nat_le 128 b && nat_lt b 192
 
 -- the greatest place, of at most so many bytes, at which a character ends; in a text that has none, a whole piece
-abbrev pub piece_end : ℕ → List ℕ → ℕ
+unfoldable pub piece_end : ℕ → List ℕ → ℕ
 piece_end zero text = max_piece
 piece_end (suc k) text = if goes_on (slice_index text (suc k)) then piece_end k text else suc k
 
@@ -56,12 +57,42 @@ numbered author seq (kind ∷ kinds) = record { author = author; seq = seq; kind
 abbrev pub numbered_within : ℕ → ℕ → List OpKind → Result (List Op) RecordError
 numbered_within author seq kinds = if nat_le (seq + length kinds) (max_seq + 1) then Ok (numbered author seq kinds) else Err SeqEnd
 
+-- What was returned are operations of these kinds, numbered on, and the recorder numbers on behind them; or SeqEnd.
+abbrev pub NumbersAll : Result (List Op) RecordError → Recorder → Recorder → List OpKind → Type 0
+NumbersAll (Ok ops) old new kinds = (numbered_within old.author old.next kinds ≡ Ok ops) × (new ≡ record old { next = old.next + length ops })
+NumbersAll (Err SeqEnd) old new kinds = numbered_within old.author old.next kinds ≡ Err SeqEnd
+NumbersAll (Err NoMemory) old new kinds = ⊤
+
 abbrev pub commit_ops : Recorder → Store → Result (List Op) RecordError
 commit_ops r store = numbered_within r.author r.next (commit_kinds r.next (store_text store))
 
 -- operations as the bytes that are appended
 abbrev pub ops_bytes : List Op → List ℕ
 ops_bytes ops = flat_map (λ op. frame_of (op_text op)) ops
+
+-- What was returned is what committing gives, and the recorder numbers on behind it; after an error it is as before.
+abbrev pub Commits : Result (List Op) RecordError → Recorder → Recorder → Store → Type 0
+Commits (Ok ops) old new store = (commit_ops old store ≡ Ok ops) × (new ≡ record old { next = old.next + length ops })
+Commits (Err SeqEnd) old new store = (commit_ops old store ≡ Err SeqEnd) × (new ≡ old)
+Commits (Err NoMemory) old new store = new ≡ old
+
+-- Of a log whose machine has the recorder's author and next number, and no file at the path `next`: behind these
+-- operations the store is loaded.
+abbrev pub ComesBack : Recorder → Store → List Op → Type 0
+ComesBack r store ops =
+    (before : List Op) (s : Fsm) → fsm_of (accepted before) ≡ Some s → s.author ≡ Some r.author → s.next ≡ r.next → named next_path s.files.paths ≡ None
+    → option_map load (fsm_of (accepted (before ++ ops))) ≡ Some (Good store)
+
+-- the error of the first of two, if it has one
+abbrev pub joined : Result (List ℕ) FrameError → Result (List ℕ) FrameError → Result (List ℕ) FrameError
+joined (Ok front) (Ok back) = Ok (front ++ back)
+joined (Ok front) (Err e) = Err e
+joined (Err e) back = Err e
+
+-- the frames of operations, joined, where no content is too long
+abbrev pub framed_all : List Op → Result (List ℕ) FrameError
+framed_all [] = Ok []
+framed_all (op ∷ ops) = joined (framed (op_text op)) (framed_all ops)
 
 -- ---- the commits of a text
 

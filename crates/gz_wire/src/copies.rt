@@ -160,7 +160,8 @@ pub fn copy_append(
     add: &LabelSet,
     content: &Blob,
 ) -> Result<Msg, NoMemory>
-    ensures { IfOk result (λ msg. msg ≡ kinds.Append req journal.now epoch offset selector.now take.now add.now content.now) }
+    ensures { IfOk result
+        (λ msg. msg ≡ kinds.Append req journal.now epoch offset selector.now take.now add.now content.now) }
 {
     Ok(Msg::Append {
         req,
@@ -184,7 +185,8 @@ pub fn copy_append_done(
     labels: &LabelSet,
     route: &Names,
 ) -> Result<Msg, NoMemory>
-    ensures { IfOk result (λ msg. msg ≡ kinds.AppendDone req journal.now status begin end value labels.now route.now) }
+    ensures { IfOk result
+        (λ msg. msg ≡ kinds.AppendDone req journal.now status begin end value labels.now route.now) }
 {
     Ok(Msg::AppendDone {
         req,

@@ -1,0 +1,9 @@
+use Rattle.std.proofs.Common.{◌≡◌, drop}
+use Rattle.std.specs.Prelude.{option_map}
+use Rattle.serde_json.specs.View.{items_view}
+use Rattle.gz_store.specs.Stores.{all_of, map_with, producer_of, producers_of}
+use Rattle.gz_store.proofs.read.read_producers.Given as goal
+
+abbrev pub invariant-loop-value : goal.invariant-loop-value
+invariant-loop-value l =
+    option_map (λ xs. map_with l.producers.entries xs) (all_of producer_of (items_view (drop l.value-index l.values))) ≡ producers_of (items_view l.values)
