@@ -19,8 +19,6 @@ mod search;
 mod solve;
 mod table;
 mod tally;
-#[cfg(test)]
-mod tests;
 
 pub use choice::place;
 pub use laws::{no_placement_passes_a_cut, no_table_passes_a_cut};

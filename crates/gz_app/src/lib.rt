@@ -12,8 +12,6 @@ mod app;
 mod laws;
 mod output;
 mod state;
-#[cfg(test)]
-mod tests;
 
 pub use app::{App, AppKind, Count, Latest, Relay, app_of};
 pub use laws::fold_of_joined_messages;

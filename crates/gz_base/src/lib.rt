@@ -14,8 +14,6 @@ mod lines;
 mod memory;
 mod outside;
 mod standard;
-#[cfg(test)]
-mod tests;
 
 pub use exit::Exit;
 pub use lines::{LineError, LineReader};

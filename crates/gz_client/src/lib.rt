@@ -15,8 +15,6 @@
 mod answer;
 mod content;
 mod request;
-#[cfg(test)]
-mod tests;
 
 pub use answer::{Answer, MAX_APPEND, print_labels, refusal};
 pub use request::request_of;

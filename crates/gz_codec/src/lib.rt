@@ -22,6 +22,3 @@ pub use puts::{
     put_changes, put_compares, put_content, put_entry, put_image, put_labels, put_names,
     put_number, put_optional, put_text, put_writes,
 };
-
-#[cfg(test)]
-mod tests;

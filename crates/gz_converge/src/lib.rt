@@ -13,8 +13,6 @@ mod ids;
 mod laws;
 mod problem;
 mod read;
-#[cfg(test)]
-mod tests;
 mod txn;
 mod view;
 

@@ -7,7 +7,5 @@
 #![tactic(auto)]
 
 mod command;
-#[cfg(test)]
-mod tests;
 
 pub use command::gazctl;

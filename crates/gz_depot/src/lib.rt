@@ -8,7 +8,5 @@
 
 mod answers;
 mod depot;
-#[cfg(test)]
-mod tests;
 
 pub use depot::Depot;

@@ -23,6 +23,3 @@ pub use form::{
 pub use lists::{refuse_long, use_name};
 pub use names::{is_id, is_journal_name, read_id, read_journal_name};
 pub use paths::{path_below, path_of_item};
-
-#[cfg(test)]
-mod tests;

@@ -14,8 +14,6 @@ mod fragment;
 mod index;
 mod laws;
 mod name;
-#[cfg(test)]
-mod tests;
 mod tree;
 
 pub use error::FragmentError;

@@ -9,15 +9,9 @@
 #![tactic(auto)]
 
 mod frame;
-#[cfg(test)]
-mod frame_tests;
 mod laws;
 mod line;
-#[cfg(test)]
-mod line_tests;
 mod message;
-#[cfg(test)]
-mod tests;
 
 pub use frame::{FrameError, Unframed, frame_fixed, unframe};
 pub use laws::{

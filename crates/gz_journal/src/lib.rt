@@ -12,8 +12,6 @@ mod journal;
 mod judgement;
 mod laws;
 mod request;
-#[cfg(test)]
-mod tests;
 
 pub use journal::JournalState;
 pub use judgement::{Judged, Landed, judge};

@@ -7,7 +7,5 @@
 #![tactic(auto)]
 
 mod json;
-#[cfg(test)]
-mod tests;
 
 pub use json::{first_unknown, parse, print};

@@ -17,8 +17,6 @@ mod laws;
 mod mirror;
 mod rows;
 mod table;
-#[cfg(test)]
-mod tests;
 
 pub use error::KeyError;
 pub use formats::{Ids, Joined, print_joined, read_ids, read_joined, read_sync};

@@ -17,8 +17,6 @@ mod label_set;
 mod name;
 mod no_memory;
 mod selector;
-#[cfg(test)]
-mod tests;
 
 pub use blob::Blob;
 pub use entry::{Attempt, Entries, Entry, Image};

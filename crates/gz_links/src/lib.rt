@@ -19,6 +19,3 @@ pub use cluster::{join, read_specs};
 pub use cycles::first_cycle;
 pub use error::SpecError;
 pub use links::framing_at;
-
-#[cfg(test)]
-mod tests;

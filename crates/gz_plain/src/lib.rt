@@ -23,8 +23,6 @@ mod report;
 mod settle;
 mod shard;
 mod writer;
-#[cfg(test)]
-mod writer_tests;
 
 pub use cluster::{Cluster, Definition, Source};
 pub use journals::{Journal, Journals};

@@ -12,6 +12,3 @@ pub use print::{
     journal_values, member_value, print_journal, print_shard, print_specs, print_specs_as,
     shard_values,
 };
-
-#[cfg(test)]
-mod tests;

@@ -19,8 +19,6 @@ mod files;
 mod fsm;
 mod op;
 mod recorder;
-#[cfg(test)]
-mod tests;
 mod text;
 
 pub use content::{print_op, read_op};

@@ -11,8 +11,6 @@ mod error;
 mod registry;
 mod space;
 mod start;
-#[cfg(test)]
-mod tests;
 mod writes;
 
 pub use error::RegistryError;

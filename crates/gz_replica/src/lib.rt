@@ -20,8 +20,6 @@ mod part;
 mod reports;
 mod sends;
 mod slots;
-#[cfg(test)]
-mod tests;
 
 pub use choice::Choice;
 pub use ends::{HeldEnds, Reached};

@@ -14,8 +14,6 @@ mod part;
 mod parts;
 mod point;
 mod sequencer;
-#[cfg(test)]
-mod tests;
 
 pub use laws::{
     checkpoint_stays, given_is_committed, prefix_commits_prefix, released_is_committed,

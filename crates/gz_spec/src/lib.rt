@@ -27,6 +27,3 @@ pub use member::{MAX_LIMIT, MemberSpec, read_member, read_member_at};
 pub use reserved::is_reserved;
 pub use shard::{ShardSpec, read_shard};
 pub use source::{SourceSpec, Sources};
-
-#[cfg(test)]
-mod tests;

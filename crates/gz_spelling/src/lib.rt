@@ -23,6 +23,3 @@ pub use error::WireError;
 pub use laws::no_spelling_is_a_prefix;
 pub use table::{Row, Table, messages, tag_of};
 pub use wire::{Decoded, decode, encode};
-
-#[cfg(test)]
-mod tests;

@@ -13,8 +13,6 @@
 mod error;
 mod laws;
 mod spool;
-#[cfg(test)]
-mod tests;
 
 pub use error::SpoolError;
 pub use laws::heads_stay_within;

@@ -16,8 +16,6 @@ mod laws;
 mod loading;
 mod print;
 mod read;
-#[cfg(test)]
-mod tests;
 
 pub use checkpoint::{Checkpoint, Intent, Source, Store};
 pub use commit::{Ops, commit_ops, print_ops};

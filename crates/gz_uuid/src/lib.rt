@@ -12,8 +12,6 @@ mod clock;
 mod identifier;
 mod parts;
 mod producer;
-#[cfg(test)]
-mod tests;
 
 pub use clock::{ClockEnd, MsgClock, Producer};
 pub use identifier::{build, split, split_undoes_build};

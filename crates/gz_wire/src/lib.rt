@@ -17,6 +17,3 @@ mod trace;
 pub use kind::Kind;
 pub use lists::{Compares, Names, Sends};
 pub use msg::{Msg, Send};
-
-#[cfg(test)]
-mod tests;

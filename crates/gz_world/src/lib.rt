@@ -14,8 +14,6 @@ mod replays;
 mod reply;
 mod report;
 mod start;
-#[cfg(test)]
-mod tests;
 mod world;
 
 pub use laws::{
