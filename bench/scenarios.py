@@ -115,3 +115,66 @@ def producers(out, messages):
     out.write(specs(["out", "src/a"], [shard("s1", ["src/a"], "count", ["out"])]))
     lines, told = one_by_one(out, messages, lambda number: number)
     return 1 + lines, messages, told
+
+
+def small_publishes(out, count):
+    """One shard that counts, which reads all at the end."""
+    out.write(specs(["out", "src/a"], [shard("s1", ["src/a"], "count", ["out"])]))
+    for number in range(1, count + 1):
+        out.write(publish("src/a", number, 1))
+    out.write(SETTLE)
+    return 2 + count, count, ["shard s1 1 %d caught " % count]
+
+
+def wide_publishes(out, count):
+    """The same, with a hundred messages a publish."""
+    out.write(specs(["out", "src/a"], [shard("s1", ["src/a"], "count", ["out"])]))
+    for number in range(count):
+        out.write(publish("src/a", 1 + 100 * number, 100))
+    out.write(SETTLE)
+    return 2 + count, 100 * count, ["shard s1 1 %d caught " % (100 * count)]
+
+
+def commits(out, messages):
+    """One shard that counts. A publish has one message, and a settle follows after each."""
+    out.write(specs(["out", "src/a"], [shard("s1", ["src/a"], "count", ["out"])]))
+    for number in range(1, messages + 1):
+        out.write(publish("src/a", number, 1))
+        out.write(SETTLE)
+    return 1 + 2 * messages, messages, ["shard s1 %d %d caught " % (messages, messages)]
+
+
+def journals(out, messages):
+    """1,024 journals: one shard counts what one of them has, one is its output and one its log. A publish has one message,
+    and goes to each of the other 1,022 in turn. A settle is at the end."""
+    names = ["src/%04d" % i for i in range(1022)]
+    out.write(specs(["out"] + names, [shard("s1", names[:1], "count", ["out"])]))
+    for number in range(messages):
+        out.write(publish(names[number % 1022], 1 + number, 1))
+    out.write(SETTLE)
+    taken = (messages + 1021) // 1022
+    return 2 + messages, messages, ["shard s1 1 %d caught " % taken]
+
+
+def applies(out, count):
+    """Each line but the first is an apply of a journal and its log, and of a shard that reads it. The first 128 are new,
+    and then each comes again, with all sixteen values of its label in turn. A publish of one message to the journal and a
+    settle follow after every tenth."""
+    out.write(specs(["out"], []))
+    lines, published = 1, [0] * 128
+    for number in range(count):
+        place = number % 128
+        name = "src/%03d" % place
+        spec = shard("s%03d" % place, [name], "count", ["out"])
+        spec["labels"]["turn"] = [str(number // 128 % 16)]
+        both = [journal(name), journal("recovery/" + spec["id"], "x-gazette-recoverylog")]
+        line = {"do": "apply", "journals": both, "shards": [spec]}
+        out.write(json.dumps(line, separators=(",", ":")) + "\n")
+        lines += 1
+        if number % 10 == 9:
+            out.write(publish(name, 1 + number, 1))
+            out.write(SETTLE)
+            lines += 2
+            published[place] += 1
+    told = ["shard s%03d %d %d caught " % (i, published[i], published[i]) for i in range(min(count, 128))]
+    return lines, sum(published), told

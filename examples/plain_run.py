@@ -130,6 +130,9 @@ class Run:
             self.members.add(member)
             self.live.add(member)
 
+    def on_converge(self, number, event):
+        """Routes and lists of consumers don't show in a report."""
+
     def on_expire(self, number, event):
         if event["member"] not in self.live:
             return self.told.append(f"refused {number} no member")

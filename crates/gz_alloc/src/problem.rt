@@ -442,7 +442,8 @@ impl Placement {
 
     /// The pairs. It takes no memory.
     pub fn pairs(&self) -> &[(Name, Name)]
-        ensures { result.now ≡ self.now }
+        ensures value { result.now ≡ self.now }
+        ensures ordered { ascending self.now ≡ true }
     {
         self.pairs.as_slice()
     }

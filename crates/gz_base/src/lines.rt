@@ -1,6 +1,6 @@
 //! The lines of a source.
-ghost use Rattle.std.specs.Prelude.{◌≡◌, ◌≢◌, ◌≤◌, ◌++◌, [], length, take, drop, IfOk, OnOk, Err, IfNone as OnNone, IfSome};
-ghost use Rattle.std.specs.Io.KnownBytes.{IsAtEnd};
+ghost use Rattle.std.specs.Prelude.{◌≡◌, ◌≢◌, ◌≤◌, ◌<◌, ◌+◌, max, ◌++◌, [], length, take, drop, IfOk, OnOk, OnErr, Err, IfNone as OnNone, IfSome};
+ghost use Rattle.std.specs.Io.KnownBytes.{IsAtEnd, Keeps};
 ghost use Rattle.gz_model.specs.Faults.{HasRisen};
 ghost use Rattle.gz_model.specs.Lines.{line_len, IsSearched};
 ghost use Rattle.gz_model.specs.Told.{ahead, TakesLine, HasLongLine, ReadsMore};
@@ -71,6 +71,7 @@ fn first_line_len(bytes: &[u8], searched: usize) -> Option<usize>
     requires none { IsSearched searched bytes.now }
     ensures value { result ≡ line_len bytes.now }
     ensures within { IfSome result (λ n. n ≤ length bytes.now) }
+    ensures behind { IfSome result (λ n. searched < n) }
 {
     for i in searched..bytes.len() {
         if bytes[i] == NEWLINE {
@@ -107,7 +108,8 @@ impl Unread {
     /// Puts the bytes at the end, and lets go of those that were taken. So the bytes of one line are
     /// moved to the start at most once.
     fn append(&mut self, alloc: Global, bytes: &[u8]) -> Result<(), NoMemory>
-        ensures { OnOk result (self.new ≡ self.old ++ bytes.now) }
+        ensures ok { OnOk result (self.new ≡ self.old ++ bytes.now) }
+        ensures err { OnErr result (self.new ≡ self.old) }
     {
         if self.start == 0 {
             self.bytes.append(bytes)?;
@@ -122,8 +124,9 @@ impl Unread {
 
     fn take_prefix(&mut self, alloc: Global, n: usize) -> Result<Blob, NoMemory>
         requires { n ≤ length self.old }
-        ensures { IfOk result
+        ensures ok { IfOk result
             (λ prefix. (prefix ≡ take n self.old) × (self.new ≡ drop n self.old)) }
+        ensures err { OnErr result (self.new ≡ self.old) }
     {
         let bytes = self.bytes.as_slice();
         let end = self.start + n;
@@ -142,13 +145,13 @@ pub struct LineReader {
 }
 
 impl Model for LineReader {
-    ghost use Rattle.std.specs.Prelude.{List, ℕ, length, ◌<◌};
+    ghost use Rattle.std.specs.Prelude.{List, ℕ, length, ◌≡◌};
 
     ghost Value = { List ℕ };
 
     ghost view = { λ a. a.unread };
 
-    ghost invariant = { λ a. 0 < length a.block.items };
+    ghost invariant = { λ a. length a.block.items ≡ 65536 };
 }
 
 impl LineReader {
@@ -177,6 +180,8 @@ impl LineReader {
         ensures more { IfOk result
             (λ n. ReadsMore n self.old self.new (S.left input.old) (S.left input.new)) }
         ensures end { IfOk result (λ n. n ≡ 0 → IsAtEnd (S.left input.new)) }
+        ensures one_block { IfOk result (λ n. n ≤ 65536) }
+        ensures kept { OnErr result (self.new ≡ self.old) }
         ensures faults_stay { S.faults input.old ≤ S.faults input.new }
         ensures fault { result ≡ Err LineError.Fault →
             HasRisen (S.faults input.old) (S.faults input.new) }
@@ -189,15 +194,17 @@ impl LineReader {
 
     fn take_prefix(&mut self, alloc: Global, n: usize) -> Result<Blob, NoMemory>
         requires { n ≤ length self.old }
-        ensures { IfOk result
+        ensures ok { IfOk result
             (λ prefix. (prefix ≡ take n self.old) × (self.new ≡ drop n self.old)) }
+        ensures err { OnErr result (self.new ≡ self.old) }
     {
         self.unread.take_prefix(alloc, n)
     }
 
     /// The next line, with its newline; the last one may lack it. None comes at the end of the input.
-    /// TooLong comes only where the next line has more than `limit` bytes. Time goes with the bytes of
-    /// the line and of the blocks that are read.
+    /// TooLong comes only where the next line has more than `limit` bytes, of which no more is kept than the limit and
+    /// a block; behind a line that is taken no more was read than the block that holds its end. Time goes with the
+    /// bytes of the line and of the blocks that are read.
     pub fn next_line<S: Source>(
         &mut self,
         alloc: Global,
@@ -211,7 +218,10 @@ impl LineReader {
             (λ r. IfSome r
             (TakesLine (ahead self.old (S.left input.old)) (ahead self.new (S.left input.new)))) }
         ensures too_long { result ≡ Err LineError.TooLong →
-            HasLongLine limit (ahead self.old (S.left input.old)) }
+            HasLongLine limit (ahead self.old (S.left input.old))
+            × Keeps (ahead self.old (S.left input.old)) (ahead self.new (S.left input.new)) }
+        ensures bounded { length self.new ≤ max (length self.old) (limit + 65536) }
+        ensures one_block { OnOk result (length self.new ≤ max (length self.old) 65536) }
         ensures faults_stay { S.faults input.old ≤ S.faults input.new }
         ensures fault { result ≡ Err LineError.Fault →
             HasRisen (S.faults input.old) (S.faults input.new) }

@@ -1,8 +1,9 @@
 //! Where bytes come from and go to.
-ghost use Rattle.std.specs.Prelude.{◌≡◌, ◌<◌, ◌≤◌, ℕ, List, Option, length, take, IfOk, OnOk, OnErr};
+ghost use Rattle.std.specs.Prelude.{◌≡◌, ◌<◌, ◌≤◌, ℕ, List, Bool, true, false, Option, length, take, IfOk, OnOk, OnErr};
 ghost use Rattle.std.specs.Io.KnownBytes.{Appends, Consumes, IsAtEnd, Keeps};
 ghost use Rattle.gz_model.specs.Faults.{HasRisen};
 ghost use Rattle.gz_model.specs.Told.{AppendsPrefix};
+ghost use Rattle.gz_base.specs.Failing.{FailsAsTold, MovesUp};
 
 use std::error::Error;
 use std::fmt;
@@ -31,6 +32,9 @@ pub trait Source {
     /// How many of its calls failed. The count never falls, and stands still at its type's end.
     ghost faults: { Self → ℕ };
 
+    /// Which of the calls to come fail, by their number from 0, where it tells.
+    ghost failing: { Self → Option (ℕ → Bool) };
+
     /// Moves the first of the bytes that are left into the start of `out`, and answers how many. The
     /// answer is 0 only at the end of the input, for an `out` that isn't empty.
     fn read(&mut self, out: &mut [u8]) -> Result<usize, Failed>
@@ -40,7 +44,9 @@ pub trait Source {
         ensures end { IfOk result (λ n. n ≡ 0 → 0 < length out.old → IsAtEnd (left self.new)) }
         ensures kept { OnErr result (Keeps (left self.old) (left self.new)) }
         ensures faults_stay { faults self.old ≤ faults self.new }
-        ensures fault { OnErr result (HasRisen (faults self.old) (faults self.new)) };
+        ensures fault { OnErr result (HasRisen (faults self.old) (faults self.new)) }
+        ensures well { OnOk result (FailsAsTold (failing self.old) (failing self.new) false) }
+        ensures fails { OnErr result (FailsAsTold (failing self.old) (failing self.new) true) };
 }
 
 /// Where bytes go to.
@@ -51,6 +57,10 @@ pub trait Sink {
     /// How many of its calls failed. The count never falls, and stands still at its type's end.
     ghost faults: { Self → ℕ };
 
+    /// Which of the calls to come fail, by their number from 0, where it tells; one that needs memory and finds none
+    /// fails beside them.
+    ghost failing: { Self → Option (ℕ → Bool) };
+
     /// Puts the first of the bytes behind what is held, and answers how many: at least one, where there
     /// is one.
     fn write(&mut self, bytes: &[u8]) -> Result<usize, Failed>
@@ -60,7 +70,9 @@ pub trait Sink {
             (λ n. Appends (held self.old) (held self.new) (take n bytes.now)) }
         ensures kept { OnErr result (Keeps (held self.old) (held self.new)) }
         ensures faults_stay { faults self.old ≤ faults self.new }
-        ensures fault { OnErr result (HasRisen (faults self.old) (faults self.new)) };
+        ensures fault { OnErr result (HasRisen (faults self.old) (faults self.new)) }
+        ensures well { OnOk result (FailsAsTold (failing self.old) (failing self.new) false) }
+        ensures fails { OnErr result (MovesUp (failing self.old) (failing self.new)) };
 }
 
 /// Writes all the bytes. Where it fails, a prefix of them was written. It takes no memory.

@@ -3,12 +3,15 @@
 #![tactic(auto)]
 
 mod agreement;
+mod converges;
 mod fragments;
 mod journals;
 mod keys;
+mod logs;
 mod messages;
 mod placements;
 mod specifications;
+mod spellings;
 mod transactions;
 
 use gz_label::NoMemory;
@@ -17,7 +20,7 @@ use std::process::ExitCode;
 use std::{env, io};
 
 const USAGE: &str =
-    "usage: gz_bench lines|feed|append|read|txn|fragments|specs|place|keep|agree COUNT";
+    "usage: gz_bench lines|feed|append|read|txn|fragments|play|commit|specs|wire|large|place|keep|converge|agree COUNT";
 
 /// What came of the work, or None where there is no such work.
 fn done(alloc: Global, work: &str, count: u32) -> Result<Option<u64>, NoMemory> {
@@ -28,9 +31,14 @@ fn done(alloc: Global, work: &str, count: u32) -> Result<Option<u64>, NoMemory> 
         "read" => journals::read_all(alloc, count)?,
         "txn" => keys::write_all(alloc, count)?,
         "fragments" => fragments::cover_all(alloc, count)?,
+        "play" => logs::play_all(alloc, count)?,
+        "commit" => logs::commit_all(alloc, count)?,
         "place" => placements::place_all(alloc, count)?,
         "keep" => placements::place_again(alloc, count)?,
+        "converge" => converges::converge_all(alloc, count)?,
         "specs" => specifications::read_and_print(alloc, count)?,
+        "wire" => spellings::spell_all(alloc, count)?,
+        "large" => spellings::spell_large(alloc, count)?,
         "agree" => agreement::agree(alloc, count)?,
         _ => return Ok(None),
     };

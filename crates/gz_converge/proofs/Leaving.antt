@@ -5,7 +5,7 @@ use Rattle.gz_keyspace.specs.Formats.{is_in}
 use Rattle.gz_keyspace.proofs.RowLemmas.{same_from_test}
 use Rattle.gz_converge.specs.declared.view.Listed.{Listed}
 use Rattle.gz_converge.specs.declared.view.Synced.{Synced}
-use Rattle.gz_converge.specs.Cases.{within, without, are_within, is_synced, settled_route, changed_route, placed_route, next_route, ids_in}
+use Rattle.gz_converge.specs.Cases.{within, without, are_within, is_synced, settled_route, next_route, ids_in}
 
 -- ---- members of lists
 

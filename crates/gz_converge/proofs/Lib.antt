@@ -8,5 +8,6 @@ pub mod Placing
 pub mod Reading
 pub mod Rounds
 pub mod Rows
+pub mod Side
 pub mod Steady
 pub mod Tables

@@ -1,5 +1,5 @@
 -- Where journals are moves towards where they are placed.
-use Rattle.std.proofs.Common.{◌≡◌, ℕ, List, [], ◌∷◌, ◌++◌, refl, ap, sym, ◌∙◌, subst, Option, Some, None, Bool, true, false, ◌||◌, ◌&&◌, cond, filter, map, true≢false, ◌⊎◌, inl, inr, ⊎_elim}
+use Rattle.std.proofs.Common.{◌≡◌, ℕ, List, [], ◌∷◌, ◌++◌, refl, ap, sym, ◌∙◌, subst, Option, Some, None, Bool, true, false, ◌&&◌, cond, filter, map, true≢false, ◌⊎◌, inl, inr, ⊎_elim}
 use Rattle.std.specs.Prelude.{flat_map}
 use Rattle.std.proofs.lemmas.Bool.{and_parts, and_from}
 use Rattle.std.proofs.lemmas.List.Folds.{list_any-append}
@@ -11,9 +11,9 @@ use Rattle.gz_alloc.proofs.NameLemmas.{same_equal, same_itself}
 use Rattle.gz_converge.specs.declared.view.Listed.{Listed}
 use Rattle.gz_converge.specs.declared.view.Synced.{Synced}
 use Rattle.gz_converge.specs.declared.view.JournalView.{JournalView}
-use Rattle.gz_converge.specs.Cases.{within, next_route, ids_in}
+use Rattle.gz_converge.specs.Cases.{next_route, ids_in}
 use Rattle.gz_converge.specs.Converged.{Pairs, pairs_of, placed_on}
-use Rattle.gz_converge.specs.Steps.{Follows, EachFollows}
+use Rattle.gz_converge.specs.Steps.{EachFollows}
 use Rattle.gz_converge.proofs.Leaving.{or_first, or_last, or_cases, comes_placed, placed_stays}
 
 abbrev Ids : Type 0

@@ -1,15 +1,15 @@
 -- The answer changes at most once.
-use Rattle.std.proofs.Common.{◌≡◌, ℕ, ◌+◌, ◌*◌, ◌<◌, ◌≤◌, ◌≢◌, ◌⊎◌, Bool, true, false, ◌&&◌, ◌||◌, List, [], ◌∷◌, length, replicate, refl, ap, ◌∙◌, sym, subst, arith, inl, inr, ⊎_elim, true≢false, Ordering}
+use Rattle.std.proofs.Common.{◌≡◌, ℕ, ◌+◌, ◌*◌, ◌<◌, ◌≤◌, ◌≢◌, Bool, true, false, ◌&&◌, ◌||◌, List, [], ◌∷◌, refl, ap, ◌∙◌, sym, subst, arith, inr, ⊎_elim, true≢false, Ordering}
 use Prim.Native.Nat.{zero, suc}
 use Rattle.std.specs.List.{list_all}
-use Rattle.std.specs.Ordering.{nat_cmp, ordering_then, ordering_reverse, is_lt}
+use Rattle.std.specs.Ordering.{ordering_then, is_lt}
 use Rattle.std.specs.declared.cmp.Ordering.TheVariants.{Less, Equal, Greater}
-use Rattle.std.specs.Cmp.Lexicographic.{pointwise, slice_cmp}
+use Rattle.std.specs.Cmp.Lexicographic.{pointwise}
 use Rattle.std.proofs.lemmas.List.{length-replicate}
-use Rattle.std.proofs.lemmas.Bool.{and_parts, and_from, cases_eq, cases_lt}
+use Rattle.std.proofs.lemmas.Bool.{and_parts, and_from, cases_eq}
 use Rattle.gz_alloc.specs.Sums.{sum_to}
-use Rattle.gz_alloc.specs.Flow.{Net, IsNet, IsTable, Cells, Keeps, items, members, row, total, cells_of}
-use Rattle.gz_alloc.specs.Names.{Asked, net_of, is_problem, is_known, item_names, member_names, place_of, name_at, same, has, paired, size, IsFeasible, IsFeasibleOf, greedy, greedy_pairs, pairs_of}
+use Rattle.gz_alloc.specs.Flow.{Net, Cells, items, members, row, total, cells_of}
+use Rattle.gz_alloc.specs.Names.{Asked, net_of, is_problem, is_known, item_names, member_names, place_of, name_at, same, has, paired, size, IsFeasible, IsFeasibleOf, greedy, greedy_pairs}
 use Rattle.gz_alloc.specs.Ascending.{pair_order, ascending}
 use Rattle.gz_alloc.proofs.SumLemmas.{sum_to_le}
 use Rattle.gz_alloc.proofs.NameLemmas.{net_ok, place_same, same_equal, same_itself}
@@ -19,9 +19,9 @@ use Rattle.gz_alloc.proofs.RiseLemmas.{IsAscending, ascending_facts, pairs_rise}
 use Rattle.gz_keyspace.proofs.RowLemmas.{turned}
 use Rattle.gz_converge.specs.Converged.{Pairs, IsGreatest}
 use Rattle.gz_converge.specs.Steps.{same_pair}
-use Rattle.gz_converge.proofs.Leaving.{or_first, or_last, or_cases}
+use Rattle.gz_converge.proofs.Leaving.{or_first, or_cases}
 use Rattle.gz_converge.proofs.Moves.{Moves}
-use Rattle.gz_converge.proofs.Tables.{Cell, IsPart, run, IsIn, Ascend, ran, Reached, reached, count_part, count_less}
+use Rattle.gz_converge.proofs.Tables.{IsPart, run, Ascend, ran, Reached, reached, count_part, count_less}
 use Rattle.gz_converge.proofs.Steady.{Pair, order, empty, every, known_cells, greedy_runs, in_bounds, in_paired, paired_in, known_ascend, known_bounds, every_ascends, greedy_stays}
 
 -- ---- lists of pairs

@@ -1,6 +1,6 @@
 -- The pairs of a view are in ascending order, as names and members are.
-use Rattle.std.proofs.Common.{◌≡◌, ℕ, ◌+◌, ◌-◌, ◌<◌, List, [], ◌∷◌, ◌++◌, length, refl, ap, sym, ◌∙◌, subst, Option, Bool, true, false, cond, filter, map, arith}
-use Prim.Native.Nat.{zero, suc}
+use Rattle.std.proofs.Common.{◌≡◌, ℕ, ◌+◌, ◌-◌, ◌<◌, List, [], ◌∷◌, length, refl, ap, sym, ◌∙◌, subst, Option, Bool, true, false, cond, filter, map, arith}
+use Prim.Native.Nat.{suc}
 use Rattle.std.specs.Prelude.{⊤, flat_map}
 use Rattle.std.specs.Ordering.{nat_cmp, ordering_then}
 use Rattle.std.specs.declared.cmp.Ordering.{Ordering}
@@ -11,7 +11,7 @@ use Rattle.gz_keyspace.specs.Formats.{is_in}
 use Rattle.gz_alloc.specs.declared.problem.Item.{Item}
 use Rattle.gz_alloc.specs.declared.problem.Member.{Member}
 use Rattle.gz_alloc.specs.Ascending.{pair_order, ascending}
-use Rattle.gz_alloc.specs.Names.{Asked, is_problem, item_names, member_names, name_at, rises}
+use Rattle.gz_alloc.specs.Names.{is_problem, item_names, member_names, name_at, rises}
 use Rattle.gz_alloc.proofs.NameLemmas.{asked_facts, rise_apart}
 use Rattle.gz_alloc.proofs.RiseLemmas.{IsAbove, IsAscending, EachBelow, above_append, ascending_append, ascending_test}
 use Rattle.gz_converge.specs.declared.view.Listed.{Listed}

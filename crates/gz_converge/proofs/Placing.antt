@@ -5,7 +5,7 @@ use Rattle.gz_alloc.specs.declared.problem.Item.{Item}
 use Rattle.gz_alloc.specs.declared.problem.Member.{Member}
 use Rattle.gz_alloc.specs.Names.{Asked, is_problem, IsFeasible, IsChoice, size, cut_capacity}
 use Rattle.gz_alloc.proofs.Certificate.{no_placement_passes}
-use Rattle.gz_converge.specs.Converged.{Pairs, IsGreatest, IsPlaced}
+use Rattle.gz_converge.specs.Converged.{Pairs, IsPlaced}
 
 -- the placement of a problem that has a cut of its size
 pub placed_by_cut : (asked : Asked) → is_problem asked ≡ true → (now goal pairs : Pairs) (members : List (List ℕ)) (zones : Pairs)

@@ -1,5 +1,5 @@
 -- What is read row by row, and a member whose id is none.
-use Rattle.std.proofs.Common.{◌≡◌, ℕ, ◌+◌, ◌<◌, List, [], ◌∷◌, ◌++◌, length, map, take, drop, get_or, refl, ap, sym, ◌∙◌, Option, Some, None, Bool, true, false, arith}
+use Rattle.std.proofs.Common.{◌≡◌, ℕ, ◌+◌, ◌<◌, List, [], ◌∷◌, ◌++◌, length, map, take, drop, get_or, refl, ap, sym, ◌∙◌, Option, Some, None, Bool, false, arith}
 use Prim.Native.Nat.{zero, suc}
 use Rattle.std.specs.Prelude.{slice_get, filter_map}
 use Rattle.std.specs.List.{cons_option}
@@ -8,7 +8,6 @@ use Rattle.gz_keyspace.specs.declared.table.Held.{Held}
 use Rattle.gz_keyspace.specs.Keys.{KeyMap}
 use Rattle.gz_keyspace.proofs.SortLemmas.{take_at}
 use Rattle.gz_fields.specs.Names.{is_id}
-use Rattle.gz_keyspace.specs.declared.formats.Joined.{Joined}
 use Rattle.gz_keyspace.specs.Formats.{joined_of, joined_words, joined_with, is_consumer, number_of, words_of}
 
 -- ---- rows that are taken one by one

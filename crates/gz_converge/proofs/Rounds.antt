@@ -1,5 +1,5 @@
 -- The journals' answer changes at most once.
-use Rattle.std.proofs.Common.{◌≡◌, ℕ, ◌+◌, ◌≤◌, ◌⊎◌, Bool, true, false, List, [], ◌∷◌, refl, ap, ◌∙◌, sym, subst, arith, cond, map, filter, true≢false, ⊎_elim}
+use Rattle.std.proofs.Common.{◌≡◌, ℕ, ◌+◌, ◌≤◌, Bool, true, false, List, [], ◌∷◌, refl, ap, ◌∙◌, sym, subst, arith, cond, map, true≢false, ⊎_elim}
 use Rattle.std.specs.Cmp.Lexicographic.{pointwise}
 use Rattle.gz_spec.specs.Records.{JournalSpec}
 use Rattle.gz_keyspace.specs.Keys.{same_key}
@@ -15,7 +15,7 @@ use Rattle.gz_converge.specs.Steps.{Round, EachFollows, IsNext, AreRounds, same_
 use Rattle.gz_converge.proofs.Leaving.{or_first, or_last, or_cases}
 use Rattle.gz_converge.proofs.Moves.{Moves, follows_move}
 use Rattle.gz_converge.proofs.Order.{routes_ascend}
-use Rattle.gz_converge.proofs.Once.{list_equal, list_itself, settled_next, changed_settles}
+use Rattle.gz_converge.proofs.Once.{list_itself, settled_next, changed_settles}
 
 -- ---- from one round to the next
 

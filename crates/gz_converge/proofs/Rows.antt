@@ -2,9 +2,7 @@
 -- transactions of a whole view.
 use Rattle.std.specs.Prelude.{◌≡◌, ℕ, ◌+◌, Bool, true, false, List, [], ◌∷◌, Option, Some, None, codes, refl}
 use Rattle.gz_fields.specs.Names.{is_id}
-use Rattle.gz_spec.specs.Records.{JournalSpec, ShardSpec, MemberSpec}
 use Rattle.gz_keyspace.specs.declared.table.Held.{Held}
-use Rattle.gz_keyspace.specs.declared.formats.Joined.{Joined}
 use Rattle.gz_keyspace.specs.Space.{put_of}
 use Rattle.gz_converge.specs.declared.view.Listed.{Listed}
 use Rattle.gz_converge.specs.declared.view.Synced.{Synced}
@@ -14,7 +12,6 @@ use Rattle.gz_converge.specs.declared.view.MemberView.{MemberView}
 use Rattle.gz_converge.specs.declared.txn.Txn.{Txn}
 use Rattle.gz_converge.specs.Views.{View, view_of}
 use Rattle.gz_converge.specs.Cases.{next_route, next_list}
-use Rattle.gz_converge.specs.declared.answer.Converged.{Converged}
 use Rattle.gz_converge.specs.Converged.{Pairs, routes_now, lists_now, txns_of}
 use Rattle.gz_converge.specs.Steps.{Round, changes}
 

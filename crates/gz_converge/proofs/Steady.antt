@@ -1,16 +1,15 @@
 -- The greedy placement stays the same while what is placed moves towards it.
-use Rattle.std.proofs.Common.{◌≡◌, ℕ, ◌+◌, ◌-◌, ◌*◌, ◌<◌, ◌≤◌, ◌≢◌, ◌⊎◌, Bool, true, false, ◌&&◌, ◌||◌, ◌==◌, List, [], ◌∷◌, ◌++◌, length, replicate, refl, ap, ◌∙◌, sym, subst, arith, inl, inr, ⊎_elim, cond, true≢false, Ordering}
+use Rattle.std.proofs.Common.{◌≡◌, ℕ, ◌+◌, ◌-◌, ◌*◌, ◌<◌, ◌≤◌, ◌≢◌, Bool, true, false, ◌==◌, List, [], ◌∷◌, ◌++◌, length, replicate, refl, ap, ◌∙◌, sym, subst, arith, inl, inr, ⊎_elim, cond, true≢false, Ordering}
 use Prim.Native.Nat.{zero, suc}
 use Rattle.std.specs.Prelude.{⊤}
-use Rattle.std.specs.List.{list_any}
 use Rattle.std.specs.Ordering.{nat_cmp, ordering_then, is_lt}
 use Rattle.std.specs.declared.cmp.Ordering.TheVariants.{Less, Equal, Greater}
 use Rattle.std.specs.Cmp.Lexicographic.{slice_cmp, nat_list_cmp_total}
 use Rattle.std.proofs.lemmas.List.{length-replicate}
 use Rattle.std.proofs.lemmas.Bool.{and_parts, and_from, ltb-true, lt-ltb, eqb-true, eq-eqb, cases_eq, cases_lt}
 use Rattle.std.proofs.lemmas.Cmp.{tied_itself}
-use Rattle.gz_alloc.specs.Flow.{Net, IsNet, IsTable, Cells, Keeps, items, members, cells_of}
-use Rattle.gz_alloc.specs.Names.{Asked, net_of, is_problem, is_known, item_names, member_names, place_of, name_at, same, has, paired, fill_row, fill, keep_pair, keep_pairs, greedy, greedy_pairs, pairs_of, picks, gather, rises}
+use Rattle.gz_alloc.specs.Flow.{Net, IsNet, Cells, Keeps, items, members, cells_of}
+use Rattle.gz_alloc.specs.Names.{Asked, net_of, is_problem, is_known, item_names, member_names, place_of, name_at, paired, fill_row, fill, keep_pair, keep_pairs, greedy, greedy_pairs, pairs_of, picks, gather, rises}
 use Rattle.gz_alloc.specs.Ascending.{pair_order, ascending}
 use Rattle.gz_alloc.proofs.NameLemmas.{asked_facts, net_ok, rise_apart, place_same, same_equal}
 use Rattle.gz_alloc.proofs.TableLemmas.{hit, hit_at, no_cells, good_greedy}

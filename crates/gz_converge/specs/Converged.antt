@@ -1,7 +1,5 @@
 -- What a converge answers: from a view to problems, and from placements to transactions.
 use Rattle.std.specs.Prelude.{◌≡◌, ◌≤◌, ℕ, ◌+◌, ◌++◌, List, [], ◌∷◌, map, filter, filter_map, flat_map, not, Bool, true, false, Option, Some, None, option_map, if◌then◌else◌}
-use Rattle.gz_label.specs.declared.keys.Compare.{Compare}
-use Rattle.gz_label.specs.declared.keys.KeyWrite.{KeyWrite}
 use Rattle.gz_keyspace.specs.Keys.{same_key}
 use Rattle.gz_keyspace.specs.Space.{put_of}
 use Rattle.gz_alloc.specs.declared.problem.Item.{Item}

@@ -6,7 +6,6 @@ use Rattle.gz_spec.specs.Records.{JournalSpec, ShardSpec}
 use Rattle.gz_spec.specs.Journals.{journal_of}
 use Rattle.gz_spec.specs.Shards.{shard_of}
 use Rattle.gz_keyspace.specs.declared.table.Held.{Held}
-use Rattle.gz_keyspace.specs.declared.formats.Joined.{Joined}
 use Rattle.gz_keyspace.specs.Keys.{KeyMap, held_at}
 use Rattle.gz_keyspace.specs.Formats.{ids_of, number_of, joined_of}
 use Rattle.gz_converge.specs.declared.view.Listed.{Listed}

@@ -1,6 +1,9 @@
 //! A converge.
 ghost use Rattle.std.specs.Prelude.{◌≡◌, ◌++◌, filter, filter_map, option_map, map, IfOk, OnOk, [], ◌∷◌, Some, None, true, false, if◌then◌else◌};
 ghost use Rattle.std.specs.List.{cons_option};
+ghost use Rattle.std.specs.Ordering.{nat_cmp, is_lt, is_le};
+ghost use Rattle.std.specs.Cmp.Lexicographic.{slice_cmp};
+ghost use Rattle.gz_keyspace.specs.Keys.{same_key};
 ghost use Rattle.gz_alloc.specs.Names.{Asked, is_problem};
 ghost use Rattle.gz_converge.specs.Views.{View};
 ghost use Rattle.gz_converge.specs.Cases.{next_route, next_list};
@@ -27,17 +30,40 @@ pub struct Converged {
     pub shards: Placement,
 }
 
-// The members on which the name is placed, in the order of the pairs.
-fn placed_on(alloc: Global, pairs: &[(Name, Name)], name: &Name) -> Result<Vec<Name>, NoMemory>
-    ensures { IfOk result (λ members. members.items ≡ placed_on pairs.now name.now) }
+// The pairs of the name. They stand side by side, so that they are found by two searches.
+fn named<'a>(placed: &'a Placement, name: &Name) -> &'a [(Name, Name)]
+    ensures { result.now ≡ filter (λ p. same_key name.now p.0) placed.now }
+{
+    let pairs = placed.pairs();
+    let is_below = |pair: &(Name, Name)| -> bool
+        ensures { result ≡ is_lt (slice_cmp nat_cmp pair.now.0 name.entry.now) }
+    { pair.0.cmp(name).is_lt() };
+    let start = pairs.partition_point(is_below);
+    let is_within = |pair: &(Name, Name)| -> bool
+        ensures { result ≡ is_le (slice_cmp nat_cmp pair.now.0 name.entry.now) }
+    { pair.0.cmp(name).is_le() };
+    let end = pairs.partition_point(is_within);
+    &pairs[start..end]
+}
+
+// The members of the pairs.
+fn members_of(alloc: Global, pairs: &[(Name, Name)]) -> Result<Vec<Name>, NoMemory>
+    ensures { IfOk result (λ members. members.items ≡ map (λ p. p.1) pairs.now) }
 {
     let mut members = Vec::new(alloc);
     for pair in pairs {
-        if *name == pair.0 {
-            let member = pair.1.copy()?;
-            members.push(member)?;
-        }
+        let member = pair.1.copy()?;
+        members.push(member)?;
     }
+    Ok(members)
+}
+
+// The members on which the name is placed, in the order of the pairs.
+fn placed_on(alloc: Global, placed: &Placement, name: &Name) -> Result<Vec<Name>, NoMemory>
+    ensures { IfOk result (λ members. members.items ≡ placed_on placed.now name.now) }
+{
+    let pairs = named(placed, name);
+    let members = members_of(alloc, pairs)?;
     Ok(members)
 }
 
@@ -49,7 +75,7 @@ fn journal_brokers(
 ) -> Result<Vec<Name>, NoMemory>
     ensures { IfOk result (λ brokers. brokers.items ≡ placed_on placed.now spec.now.name) }
 {
-    let brokers = placed_on(alloc, placed.pairs(), &spec.name)?;
+    let brokers = placed_on(alloc, placed, &spec.name)?;
     Ok(brokers)
 }
 
@@ -61,7 +87,7 @@ fn shard_consumers(
 ) -> Result<Vec<Name>, NoMemory>
     ensures { IfOk result (λ consumers. consumers.items ≡ placed_on placed.now spec.now.id) }
 {
-    let consumers = placed_on(alloc, placed.pairs(), &spec.id)?;
+    let consumers = placed_on(alloc, placed, &spec.id)?;
     Ok(consumers)
 }
 

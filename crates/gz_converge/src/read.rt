@@ -1,6 +1,9 @@
 //! Reads what the rows of a key space say.
 ghost use Rattle.std.specs.Prelude.{◌≡◌, ◌+◌, ◌≤◌, ◌++◌, length, map, filter_map, option_map, IfOk};
+ghost use Rattle.std.specs.Result.{result_ok};
 ghost use Rattle.gz_keyspace.specs.Formats.{id_of, joined_of};
+ghost use Rattle.gz_spec.specs.Journals.{journal_of};
+ghost use Rattle.gz_spec.specs.Shards.{shard_of};
 ghost use Rattle.gz_converge.specs.Views.{row_of, behind, journal_named, shard_named, list_at, sync_at, route_key, sync_key, assign_key, journal_with, shard_with, member_at, journal_in, shard_in, member_in};
 
 use crate::view::{JournalView, Listed, MemberView, ShardView, Synced};
@@ -89,6 +92,17 @@ fn sync_at(keys: &Mirror, key: &Name) -> Option<Synced>
     Some(Synced { epoch, revision })
 }
 
+// The specification of a journal that the value is.
+fn read_journal_spec(alloc: Global, value: &[u8]) -> Result<Option<JournalSpec>, NoMemory>
+    ensures { IfOk result (λ spec. spec ≡ result_ok (journal_of value.now)) }
+{
+    match read_journal(alloc, value) {
+        Ok(spec) => Ok(Some(spec)),
+        Err(FieldError::NoMemory) => Err(NoMemory),
+        Err(_) => Ok(None),
+    }
+}
+
 // The specification of the journal of this name that the value is.
 fn read_journal_named(
     alloc: Global,
@@ -97,23 +111,23 @@ fn read_journal_named(
 ) -> Result<Option<JournalSpec>, NoMemory>
     ensures { IfOk result (λ spec. spec ≡ journal_named name.now value.now) }
 {
-    match read_journal(alloc, value) {
-        Ok(spec) => {
-            if spec.name.as_slice() == name {
-                Ok(Some(spec))
-            } else {
-                Ok(None)
-            }
-        }
+    let Some(spec) = read_journal_spec(alloc, value)? else {
+        return Ok(None);
+    };
+    if spec.name.as_slice() != name {
+        return Ok(None);
+    }
+    Ok(Some(spec))
+}
+
+// The specification of a shard that the value is.
+fn read_shard_spec(alloc: Global, value: &[u8]) -> Result<Option<ShardSpec>, NoMemory>
+    ensures { IfOk result (λ spec. spec ≡ result_ok (shard_of value.now)) }
+{
+    match read_shard(alloc, value) {
+        Ok(spec) => Ok(Some(spec)),
         Err(FieldError::NoMemory) => Err(NoMemory),
-        Err(
-            FieldError::NotJson
-            | FieldError::BadField { .. }
-            | FieldError::BadName { .. }
-            | FieldError::BadNumber { .. }
-            | FieldError::Unsupported { .. }
-            | FieldError::Twice { .. },
-        ) => Ok(None),
+        Err(_) => Ok(None),
     }
 }
 
@@ -121,24 +135,39 @@ fn read_journal_named(
 fn read_shard_named(alloc: Global, id: &[u8], value: &[u8]) -> Result<Option<ShardSpec>, NoMemory>
     ensures { IfOk result (λ spec. spec ≡ shard_named id.now value.now) }
 {
-    match read_shard(alloc, value) {
-        Ok(spec) => {
-            if spec.id.as_slice() == id {
-                Ok(Some(spec))
-            } else {
-                Ok(None)
-            }
-        }
-        Err(FieldError::NoMemory) => Err(NoMemory),
-        Err(
-            FieldError::NotJson
-            | FieldError::BadField { .. }
-            | FieldError::BadName { .. }
-            | FieldError::BadNumber { .. }
-            | FieldError::Unsupported { .. }
-            | FieldError::Twice { .. },
-        ) => Ok(None),
+    let Some(spec) = read_shard_spec(alloc, value)? else {
+        return Ok(None);
+    };
+    if spec.id.as_slice() != id {
+        return Ok(None);
     }
+    Ok(Some(spec))
+}
+
+// The journal's route.
+fn route_of(alloc: Global, keys: &Mirror, spec: &JournalSpec) -> Result<Option<Listed>, NoMemory>
+    ensures { IfOk result (λ route. route ≡ list_at keys.now.keys (route_key spec.now.name)) }
+{
+    let key = route_key(alloc, spec)?;
+    let route = list_at(alloc, keys, &key)?;
+    Ok(route)
+}
+
+// The journal's sync key.
+fn sync_of(alloc: Global, keys: &Mirror, spec: &JournalSpec) -> Result<Option<Synced>, NoMemory>
+    ensures { IfOk result (λ sync. sync ≡ sync_at keys.now.keys (sync_key spec.now.name)) }
+{
+    let key = sync_key(alloc, spec)?;
+    Ok(sync_at(keys, &key))
+}
+
+// The shard's list of consumers.
+fn list_of(alloc: Global, keys: &Mirror, spec: &ShardSpec) -> Result<Option<Listed>, NoMemory>
+    ensures { IfOk result (λ list. list ≡ list_at keys.now.keys (assign_key spec.now.id)) }
+{
+    let key = assign_key(alloc, spec)?;
+    let list = list_at(alloc, keys, &key)?;
+    Ok(list)
 }
 
 // The journal of this specification, with its route and its sync key.
@@ -150,8 +179,8 @@ fn journal_with(
 ) -> Result<JournalView, NoMemory>
     ensures { IfOk result (λ journal. journal ≡ journal_with keys.now.keys revision spec) }
 {
-    let route = list_at(alloc, keys, &route_key(alloc, &spec)?)?;
-    let sync = sync_at(keys, &sync_key(alloc, &spec)?);
+    let route = route_of(alloc, keys, &spec)?;
+    let sync = sync_of(alloc, keys, &spec)?;
     Ok(JournalView {
         spec,
         revision,
@@ -169,7 +198,7 @@ fn shard_with(
 ) -> Result<ShardView, NoMemory>
     ensures { IfOk result (λ shard. shard ≡ shard_with keys.now.keys revision spec) }
 {
-    let list = list_at(alloc, keys, &assign_key(alloc, &spec)?)?;
+    let list = list_of(alloc, keys, &spec)?;
     Ok(ShardView {
         spec,
         revision,

@@ -1,5 +1,5 @@
 -- What is written of a verdict, and what is answered then.
-use Rattle.std.proofs.Common.{◌≡◌, ◌≢◌, ◌⊎◌, inl, inr, Bool, true, false, ℕ, List, Option, Some, None, Ok, Err, refl, sym, ◌∙◌, subst}
+use Rattle.std.proofs.Common.{◌≡◌, ◌≢◌, ◌⊎◌, inl, inr, Bool, true, false, ℕ, List, Option, Some, None, Ok, Err, option_map, refl, sym, ◌∙◌, subst}
 use Rattle.std.specs.Io.KnownBytes.{Appends, IsAtEnd}
 use Rattle.gz_model.specs.Faults.{HasRisen}
 use Rattle.gz_model.specs.Lines.{lines_of}
@@ -8,9 +8,10 @@ use Rattle.gz_base.specs.declared.exit.Exit.{Exit}
 use Rattle.gz_base.specs.declared.exit.Exit.TheVariants.{Done, Usage, BadInput, ReadFault, WriteFault, FileFault, PeerFault, Refused, Lost, NoMemory, Mismatch, HistoryFull, SpawnFault, BadPeer}
 use Rattle.gz_scenario.specs.declared.error.ScenarioError.{ScenarioError}
 use Rattle.gz_world.specs.Kept.{KeepsPromise}
-use Rattle.gz_world.specs.Worlds.{World, IsRun, settled}
-use Rattle.gz_world.specs.Report.{report_of}
-use Rattle.gz_world.specs.Run.{outcome_of, outcome_from, IsSaid, refusal_line}
+use Rattle.gz_converge.specs.declared.answer.Converged.{Converged}
+use Rattle.gz_world.specs.Worlds.{World, IsRun, converged_if, settled}
+use Rattle.gz_world.specs.Report.{report_of, report_if}
+use Rattle.gz_world.specs.Run.{Scenario, outcome_of, outcome_from, IsSaid, refusal_line, scenario_of, IsRunIf, IsRunOf}
 use Rattle.gz_world.specs.Told.{HasOutcome}
 use Rattle.gz_plain.specs.Promise.{AllCommitLines, AllExactlyOnce, AllServe}
 use Rattle.gz_plain.specs.Rests.{AllRest}
@@ -22,25 +23,24 @@ use Rattle.gz_ctl.specs.Answers.{IsVerdict, IsReport, IsRefusal, IsReplayText, W
 
 -- what is promised of each run
 pub record Laws : Type 0 where
-  pub run : (lines : List (List ℕ)) (w : World) → outcome_from lines ≡ Ok (Some w) → IsRun w
-  pub said : (lines : List (List ℕ)) (w : World) → outcome_from lines ≡ Ok (Some w) → IsSaid lines w
+  pub said : (lines : List (List ℕ)) (s : Scenario) → outcome_from lines ≡ Ok (Some s) → IsSaid lines s
   pub once : (w : World) → IsRun w → AllExactlyOnce w.cluster.journals w.cluster.shards
   pub users : (w : World) → IsRun w → AllServe w.cluster.journals w.cluster.shards
   pub lines : (w : World) → IsRun w → AllCommitLines w.cluster.journals w.cluster.shards
-  pub rests : (w : World) → IsRun w → AllRest (settled w).cluster.journals (settled w).cluster.shards
+  pub rests : (w : World) (answer : Option Converged) → IsRun w → AllRest (settled (converged_if answer w)).cluster.journals (settled (converged_if answer w)).cluster.shards
   pub told : (w : World) → IsRun w → AllTellCaught w.cluster.journals w.cluster.shards
-  pub settled_told : (w : World) → IsRun w → AllUpToDate (settled w).cluster.journals (settled w).cluster.shards
+  pub settled_told : (w : World) (answer : Option Converged) → IsRun w → AllUpToDate (settled (converged_if answer w)).cluster.journals (settled (converged_if answer w)).cluster.shards
 
-keeps : Laws → (lines : List (List ℕ)) (w : World) → outcome_from lines ≡ Ok (Some w) → KeepsPromise w
-keeps l lines w is = let r = l.run lines w is in record { run = r; once = l.once w r; users = l.users w r; lines = l.lines w r; rests = l.rests w r; told = l.told w r; settled_told = l.settled_told w r }
+keeps : Laws → (w : World) → IsRun w → KeepsPromise w
+keeps l w r = record { run = r; once = l.once w r; users = l.users w r; lines = l.lines w r; rests = λ answer. l.rests w answer r; told = l.told w r; settled_told = λ answer. l.settled_told w answer r }
 
-keeps_if : Laws → (input : List ℕ) (w : Option World) → outcome_of input ≡ Ok w → KeepsIf w
-keeps_if l input None is = tt
-keeps_if l input (Some w) is = keeps l (lines_of input) w is
+keeps_if : Laws → (w : Option World) → IsRunIf w → KeepsIf w
+keeps_if l None r = tt
+keeps_if l (Some w) r = keeps l w r
 
 report_written : Laws → (input old new : Option (List ℕ)) (text : List ℕ) → IsReport input text → Appends old new text → WritesReport input old new
 report_written l None old new text is put = tt
-report_written l (Some input) old new text is put = (is.0, is.1, keeps_if l input is.0 is.1, rw (← is.2) put)
+report_written l (Some input) old new text is put = (is.0, is.1, keeps_if l is.0 is.1.run, rw (← is.2) put)
 
 refusal_written : (input old new : Option (List ℕ)) (text : List ℕ) → IsRefusal input text → Appends old new text → WritesRefusal input old new
 refusal_written None old new text is put = tt
@@ -173,9 +173,9 @@ verdict_complete result exit text left rest faults risen wrote has v (inr is) fa
 
 -- ---- what a replay comes to
 
-pub report_is : (left : Option (List ℕ)) (w : World) (text : List ℕ) → HasOutcome left (Ok (Some w)) → text ≡ report_of w → IsReport left text
-report_is None w text has is = tt
-report_is (Some input) w text has is = (Some w, has, is)
+pub report_is : (left : Option (List ℕ)) (w : Option World) (text : List ℕ) → HasOutcome left (Ok (option_map scenario_of w)) → IsRunIf w → text ≡ report_if w → IsReport left text
+report_is None w text has run is = tt
+report_is (Some input) w text has run is = (w, record { outcome = has; run = run }, is)
 
 pub refusal_is : (left : Option (List ℕ)) (refusal : ScenarioError) (text : List ℕ) → HasOutcome left (Err refusal) → text ≡ refusal_line refusal → IsRefusal left text
 refusal_is None refusal text outcome is = tt
@@ -184,7 +184,7 @@ refusal_is (Some input) refusal text outcome is = (refusal, outcome, is)
 -- the promise of every run is that of this input's
 pub promise_kept : Laws → (left : Option (List ℕ)) → KeepsAlong left
 promise_kept l None = tt
-promise_kept l (Some input) = λ prefix w begins gives. (l.said prefix w gives, keeps l prefix w gives)
+promise_kept l (Some input) = λ prefix w begins gives run. (l.said prefix (scenario_of w) gives, keeps l w run)
 
 -- a verdict is neither of these
 pub verdict_no_usage : (result exit : Exit) (text : List ℕ) (left rest : Option (List ℕ)) (faults risen : ℕ) → IsVerdict exit text left rest faults risen → (result ≡ exit) ⊎ (result ≡ WriteFault) → result ≡ Usage → ⊥

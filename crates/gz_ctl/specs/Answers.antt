@@ -9,9 +9,9 @@ use Rattle.gz_scenario.specs.declared.error.ScenarioError.{ScenarioError}
 use Rattle.gz_base.specs.declared.exit.Exit.{Exit}
 use Rattle.gz_base.specs.declared.exit.Exit.TheVariants.{Done, Usage, BadInput, ReadFault, WriteFault, FileFault, PeerFault, Refused, Lost, NoMemory, Mismatch, HistoryFull, SpawnFault, BadPeer}
 use Rattle.gz_world.specs.Kept.{KeepsPromise}
-use Rattle.gz_world.specs.Worlds.{World}
+use Rattle.gz_world.specs.Worlds.{World, IsRun}
 use Rattle.gz_world.specs.Report.{report_if}
-use Rattle.gz_world.specs.Run.{outcome_of, outcome_from, IsSaid, refusal_line}
+use Rattle.gz_world.specs.Run.{Scenario, outcome_of, outcome_from, IsSaid, refusal_line, scenario_of, IsRunOf}
 use Rattle.gz_ctl.specs.Commands.{usage_text, read_fault_text}
 
 -- the promise is kept of the world, where there is one: an empty input starts none
@@ -19,10 +19,10 @@ abbrev pub KeepsIf : Option World → Type 0
 KeepsIf None = ⊤
 KeepsIf (Some w) = KeepsPromise w
 
--- The lines of the bytes give a run, of whose world the promise is kept, and its report was written.
+-- The report was written of a world of a run of what the bytes say, of which the promise is kept.
 abbrev pub WritesReport : Option (List ℕ) → Option (List ℕ) → Option (List ℕ) → Type 0
 WritesReport None old new = ⊤
-WritesReport (Some input) old new = (w : Option World) × (outcome_of input ≡ Ok w) × KeepsIf w × Appends old new (report_if w)
+WritesReport (Some input) old new = (w : Option World) × IsRunOf input w × KeepsIf w × Appends old new (report_if w)
 
 -- a line of the bytes is refused, and that was written
 abbrev pub WritesRefusal : Option (List ℕ) → Option (List ℕ) → Option (List ℕ) → Type 0
@@ -34,7 +34,7 @@ WritesRefusal (Some input) old new = (refusal : ScenarioError) × (outcome_of in
 abbrev pub IsReplayText : Option (List ℕ) → Type 0 → List ℕ → Type 0
 IsReplayText None risen text = ⊤
 IsReplayText (Some input) risen text =
-    ((w : Option World) × (outcome_of input ≡ Ok w) × (text ≡ report_if w)) ⊎ (((refusal : ScenarioError) × (outcome_of input ≡ Err refusal) × (text ≡ refusal_line refusal)) ⊎ (risen × (text ≡ read_fault_text)))
+    ((w : Option World) × IsRunOf input w × (text ≡ report_if w)) ⊎ (((refusal : ScenarioError) × (outcome_of input ≡ Err refusal) × (text ≡ refusal_line refusal)) ⊎ (risen × (text ≡ read_fault_text)))
 
 abbrev pub IsText : Bool → Option (List ℕ) → Type 0 → List ℕ → Type 0
 IsText false input risen text = text ≡ usage_text
@@ -43,11 +43,13 @@ IsText true input risen text = IsReplayText input risen text
 abbrev pub WritesPrefix : Bool → Option (List ℕ) → Type 0 → Option (List ℕ) → Option (List ℕ) → Type 0
 WritesPrefix command input risen old new = (text : List ℕ) × IsText command input risen text × AppendsPrefix old new text
 
--- the promise, after each prefix of the lines that gives a world, which then has the events that they say
+-- The promise, after each prefix of the lines that gives a scenario: of each world of a run of it, whatever its converges
+-- answered.
 abbrev pub KeepsAlong : Option (List ℕ) → Type 0
 KeepsAlong None = ⊤
 KeepsAlong (Some input) =
-    (prefix : List (List ℕ)) (w : World) → IsPrefix prefix (lines_of input) → outcome_from prefix ≡ Ok (Some w) → IsSaid prefix w × KeepsPromise w
+    (prefix : List (List ℕ)) (w : World) → IsPrefix prefix (lines_of input) → outcome_from prefix ≡ Ok (Some (scenario_of w)) → IsRun w
+    → IsSaid prefix (scenario_of w) × KeepsPromise w
 
 -- the answers that a replay has
 abbrev pub IsAnswer : Exit → Type 0
@@ -66,16 +68,16 @@ IsAnswer HistoryFull = ⊥
 IsAnswer SpawnFault = ⊥
 IsAnswer BadPeer = ⊥
 
--- the bytes, which are told, give a run
+-- the bytes, which are told, give a scenario, or are empty
 abbrev pub HasReport : Option (List ℕ) → Type 0
 HasReport None = ⊥
-HasReport (Some input) = (w : Option World) × (outcome_of input ≡ Ok w)
+HasReport (Some input) = (s : Option Scenario) × (outcome_of input ≡ Ok s)
 
 -- ---- what a replay comes to before anything is written
 
 abbrev pub IsReport : Option (List ℕ) → List ℕ → Type 0
 IsReport None text = ⊤
-IsReport (Some input) text = (w : Option World) × (outcome_of input ≡ Ok w) × (text ≡ report_if w)
+IsReport (Some input) text = (w : Option World) × IsRunOf input w × (text ≡ report_if w)
 
 abbrev pub IsRefusal : Option (List ℕ) → List ℕ → Type 0
 IsRefusal None text = ⊤

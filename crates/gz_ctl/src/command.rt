@@ -9,7 +9,7 @@ ghost use Rattle.gz_ctl.specs.Answers.{IsVerdict, WritesReport, WritesRefusal, W
 use gz_base::{Exit, Sink, Source, write_all};
 use gz_label::{Blob, NoMemory};
 use gz_world::{
-    ReplayError, a_settle_ends_every_run, a_world_is_the_run_of_its_events,
+    ReplayError, a_scenario_is_what_its_lines_say, a_settle_ends_every_run,
     every_run_is_exactly_once, refusal_line, replay, what_a_report_tells_is_so,
 };
 use std::alloc::Global;
@@ -105,11 +105,11 @@ pub fn gazctl<S: Source, K: Sink>(
     ensures no_command { is_command (map string_bytes words.now) ≡ false →
         (result ≡ Exit.Usage) ⊎ (result ≡ Exit.WriteFault) }
 
-    // The report of the run of exactly the input's lines, which was read to its end, and of whose world the promise is kept.
+    // The report of a run of exactly the input's lines, which was read to its end, and of whose world the promise is kept.
     ensures done { result ≡ Exit.Done →
         WritesReport (S.left input.old) (K.held output.old) (K.held output.new)
         × IsAtEnd (S.left input.new) }
-    // It is kept after each of the lines, too.
+    // It is kept after each of the lines, too, whatever is placed where.
     ensures exactly_once { KeepsAlong (S.left input.old) }
 
     // The first line that is refused, and why.
@@ -138,7 +138,7 @@ pub fn gazctl<S: Source, K: Sink>(
         ⊎ (HasRisen (S.faults input.old) (S.faults input.new)
         ⊎ HasRisen (K.faults output.old) (K.faults output.new))) }
 {
-    a_world_is_the_run_of_its_events();
+    a_scenario_is_what_its_lines_say();
     every_run_is_exactly_once();
     a_settle_ends_every_run();
     what_a_report_tells_is_so();

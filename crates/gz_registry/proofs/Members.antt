@@ -1,18 +1,20 @@
 -- Everyone who ever joined.
-use Rattle.std.proofs.Common.{◌≡◌, ℕ, ◌+◌, List, [], ◌∷◌, ◌++◌, cond, refl, ap, sym, ◌∙◌, Bool, true, false, Option, Some, None, Err, subst, is_some}
+use Rattle.std.proofs.Common.{◌≡◌, ℕ, ◌+◌, List, [], ◌∷◌, ◌++◌, cond, refl, ap, sym, ◌∙◌, Bool, true, false, Option, Some, None, Result, Ok, Err, subst, is_some}
 use Rattle.std.specs.Map.{lookup}
 use Rattle.gz_label.specs.declared.keys.KeyWrite.{KeyWrite}
 use Rattle.gz_label.specs.declared.keys.Change.{Change}
+use Rattle.gz_label.specs.declared.keys.Compare.{Compare}
+use Rattle.gz_keyspace.specs.declared.error.KeyError.{KeyError}
 use Rattle.gz_keyspace.specs.declared.table.Held.{Held}
 use Rattle.gz_keyspace.specs.declared.formats.Joined.{Joined}
 use Rattle.gz_keyspace.specs.Formats.{member_text}
 use Rattle.gz_keyspace.specs.Keys.{same_key, held_at, keys_after}
 use Rattle.gz_keyspace.specs.Table.{puts, prepared_of, prepared_value}
-use Rattle.gz_keyspace.specs.Space.{Space, revision_of, with_change, put_of, delete_of, after_txn, after_grant, after_expire, key_of_lease}
+use Rattle.gz_keyspace.specs.Space.{Space, revision_of, with_change, put_of, delete_of, txn_answer, after_txn, after_grant, after_expire, key_of_lease}
 use Rattle.gz_keyspace.proofs.KeyLemmas.{one_more, same_laws}
 use Rattle.gz_registry.specs.declared.error.RegistryError.TheVariants.{NoMember}
 use Rattle.gz_registry.specs.Keys.{member_key}
-use Rattle.gz_registry.specs.Registered.{Member, Registered, lease_of, lease_answer, ended_answer, expire_answer, after_lease, after_expiry, each_written, was_member, member_in, members_in, seen, after_join, OnlyMembers}
+use Rattle.gz_registry.specs.Registered.{Member, Registered, lease_of, lease_answer, ended_answer, expire_answer, after_lease, after_expiry, each_written, was_member, member_in, members_in, seen, after_join, written_if, IsOfNoMember, OnlyMembers}
 use Rattle.gz_registry.proofs.Orders.{Each}
 
 -- ---- leases by names
@@ -100,6 +102,17 @@ pub only_after_txn : (ws : List KeyWrite) (keys : Space) (members : List Member)
     → OnlyMembers (record { keys = keys; members = members }) → OnlyMembers (record { keys = after_txn ws keys; members = members })
 only_after_txn [] keys members other only = only
 only_after_txn (w ∷ ws) keys members other only = λ id none. held_elsewhere (member_key id) (w ∷ ws) keys.changes (other id) ∙ only id none
+
+-- a transaction of one write that is no member's, where it is made
+only_if_written : (answer : Result ℕ KeyError) (write : KeyWrite) (keys : Space) (members : List Member) → IsOfNoMember write
+    → OnlyMembers (record { keys = keys; members = members }) → OnlyMembers (record { keys = written_if answer write keys; members = members })
+only_if_written (Ok revision) write keys members other only = only_after_txn (write ∷ []) keys members (λ id. (other id, tt)) only
+only_if_written (Err e) write keys members other only = only
+
+pub only_after_try : (compare : Compare) (write : KeyWrite) (keys new : Space) (members : List Member) → IsOfNoMember write
+    → new ≡ written_if (txn_answer (compare ∷ []) (write ∷ []) keys) write keys → OnlyMembers (record { keys = keys; members = members })
+    → OnlyMembers (record { keys = new; members = members })
+only_after_try compare write keys new members other is only = rw is (only_if_written (txn_answer (compare ∷ []) (write ∷ []) keys) write keys members other only)
 
 same_member : (a b : List ℕ) → same_key (member_key a) (member_key b) ≡ same_key a b
 same_member a b = refl

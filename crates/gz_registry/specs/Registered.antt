@@ -1,6 +1,7 @@
 -- A cluster's key space with everyone who ever joined, and what its calls do.
 use Rattle.std.specs.Prelude.{◌≡◌, ℕ, ◌++◌, List, [], ◌∷◌, length, map, ⊤, Bool, false, Option, Some, None, is_some, Result, Ok, Err, if◌then◌else◌, nat_le}
 use Rattle.gz_label.specs.declared.keys.Change.{Change}
+use Rattle.gz_label.specs.declared.keys.Compare.{Compare}
 use Rattle.gz_label.specs.declared.keys.KeyWrite.{KeyWrite}
 use Rattle.gz_spec.specs.Limits.{max_members}
 use Rattle.gz_spec.specs.Records.{Specs}
@@ -8,7 +9,7 @@ use Rattle.gz_keyspace.specs.declared.error.KeyError.{KeyError}
 use Rattle.gz_keyspace.specs.declared.formats.Joined.{Joined}
 use Rattle.gz_keyspace.specs.Formats.{member_text}
 use Rattle.gz_keyspace.specs.Keys.{same_key, held_at, keys_after}
-use Rattle.gz_keyspace.specs.Space.{Space, revision_of, next_revision, made_revision, after_txn, after_grant, key_of_lease, after_expire}
+use Rattle.gz_keyspace.specs.Space.{Space, revision_of, next_revision, made_revision, txn_answer, after_txn, after_grant, key_of_lease, after_expire}
 use Rattle.gz_registry.specs.declared.error.RegistryError.{RegistryError}
 use Rattle.gz_registry.specs.declared.error.RegistryError.TheVariants.{MembersFull, NoMember, KeysEnd}
 use Rattle.gz_registry.specs.Keys.{member_key, writes_of, members_of}
@@ -68,6 +69,15 @@ expire_answer name r = lease_answer (lease_of name r.members) r.keys
 abbrev pub after_put : Specs → Registered → Registered
 after_put part r = record { keys = after_txn (writes_of part) r.keys; members = r.members }
 
+-- the key space after a transaction of one write, by what was answered to it
+abbrev pub written_if : Result ℕ KeyError → KeyWrite → Space → Space
+written_if (Ok revision) write keys = after_txn (write ∷ []) keys
+written_if (Err e) write keys = keys
+
+-- after a transaction of one compare and one write, which is made where the compare holds and the revision isn't at its end
+abbrev pub after_try : Compare → KeyWrite → Registered → Registered
+after_try compare write r = record { keys = written_if (txn_answer (compare ∷ []) (write ∷ []) r.keys) write r.keys; members = r.members }
+
 -- after one has joined, by a grant
 abbrev pub after_join : Joined → Registered → Registered
 after_join j r =
@@ -100,6 +110,10 @@ abbrev pub registry_start : Specs → Registered
 registry_start specs = each_joined (members_of specs) (record { keys = each_written (writes_of specs) (record { changes = []; leases = [] }); members = [] })
 
 -- ---- what holds at each time
+
+-- the write is of no member's key
+abbrev pub IsOfNoMember : KeyWrite → Type 0
+IsOfNoMember write = (id : List ℕ) → same_key write.key (member_key id) ≡ false
 
 -- a member's key is there only where one of its name has joined
 abbrev pub OnlyMembers : Registered → Type 0

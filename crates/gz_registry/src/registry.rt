@@ -1,16 +1,16 @@
 //! A cluster's key space with its members.
-ghost use Rattle.std.specs.Prelude.{◌≡◌, ◌<◌, ◌^◌, false, IfOk, OnOk, OnErr, IsTrue, option_map};
+ghost use Rattle.std.specs.Prelude.{◌≡◌, ◌<◌, ◌^◌, [], ◌∷◌, false, is_ok, IfOk, OnOk, OnErr, IsTrue, option_map};
 ghost use Rattle.gz_keyspace.specs.Keys.{held_at, keys_after};
-ghost use Rattle.gz_keyspace.specs.Space.{revision_of};
-ghost use Rattle.gz_registry.specs.Registered.{was_member, put_answer, after_put, join_answer, after_join, expire_answer, after_expiry, registry_start};
+ghost use Rattle.gz_keyspace.specs.Space.{revision_of, txn_answer};
+ghost use Rattle.gz_registry.specs.Registered.{IsOfNoMember, after_try, was_member, put_answer, after_put, join_answer, after_join, expire_answer, after_expiry, registry_start};
 ghost use Rattle.gz_registry.specs.Outcomes.{Gives};
 
 use crate::RegistryError;
-use crate::space::{admit, end_member, write_all};
+use crate::space::{admit, end_member, try_one, write_all};
 use crate::start::{start_keys, start_members};
 use crate::writes::writes_of;
 use gz_keyspace::{Joined, KeySpace};
-use gz_label::{Blob, Name, NoMemory};
+use gz_label::{Blob, Compare, KeyWrite, Name, NoMemory};
 use gz_spec::{MAX_MEMBERS, Specs};
 use indexmap::IndexMap;
 use std::alloc::Global;
@@ -44,6 +44,13 @@ impl Registry {
         let mut keys = start_keys(alloc, specs)?;
         let members = start_members(alloc, &mut keys, specs)?;
         Ok(Registry { keys, members })
+    }
+
+    /// The key space. It takes no memory.
+    pub fn keys(&self) -> &KeySpace
+        ensures { result.now ≡ self.now.keys }
+    {
+        &self.keys
     }
 
     /// The revision of the key space, below 2^40. It takes no memory.
@@ -83,6 +90,21 @@ impl Registry {
         let writes = writes_of(alloc, part)?;
         let revision = write_all(&mut self.keys, writes.as_slice())?;
         Ok(revision)
+    }
+
+    /// A transaction of one compare and one write, whose key is no member's. It is made where the compare's key has its
+    /// revision and that of the key space isn't 2^40 - 1, and changes nothing elsewhere. The answer is whether it was
+    /// made. After out of memory nothing has changed.
+    #[tactic(auto, using(crate::proofs::Members::only_after_try))]
+    pub fn try_write(&mut self, compare: &Compare, write: &KeyWrite) -> Result<bool, NoMemory>
+        requires { IsOfNoMember write.now }
+        ensures answer { IfOk result
+            (λ made. made ≡ is_ok (txn_answer (compare.now ∷ []) (write.now ∷ []) self.old.keys)) }
+        ensures ok { OnOk result (self.new ≡ after_try compare.now write.now self.old) }
+        ensures err { OnErr result (self.new ≡ self.old) }
+    {
+        let made = try_one(&mut self.keys, compare, write)?;
+        Ok(made)
     }
 
     /// A member joins, whose name no member had: its key is put, and kept by a lease, which is the answer.

@@ -1,17 +1,17 @@
 //! Calls on a key space that can be refused at its last revision alone.
-ghost use Rattle.std.specs.Prelude.{◌≡◌, ◌+◌, ◌<◌, ◌≤◌, ◌++◌, [], ◌∷◌, None, Some, length, false, IfOk, OnOk, OnErr, IsTrue};
+ghost use Rattle.std.specs.Prelude.{◌≡◌, ◌+◌, ◌<◌, ◌≤◌, ◌++◌, [], ◌∷◌, None, Some, length, false, is_ok, IfOk, OnOk, OnErr, IsTrue};
 ghost use Rattle.std.specs.List.{list_all};
 ghost use Rattle.std.specs.Map.{lookup};
 ghost use Rattle.indexmap.specs.IndexMap.{spare};
 ghost use Rattle.gz_keyspace.specs.Keys.{same_key, held_at, keys_after};
-ghost use Rattle.gz_keyspace.specs.Space.{last_revision, revision_of, next_revision, made_revision, after_txn, after_grant, after_expire, key_of_lease};
+ghost use Rattle.gz_keyspace.specs.Space.{last_revision, revision_of, next_revision, made_revision, txn_answer, after_txn, after_grant, after_expire, key_of_lease};
 ghost use Rattle.gz_registry.specs.Outcomes.{Gives};
-ghost use Rattle.gz_registry.specs.Registered.{seen, key_answer, ended_answer, expire_answer, after_expiry, was_member, members_in, after_join, each_written, each_joined, OnlyMembers, AreNew};
+ghost use Rattle.gz_registry.specs.Registered.{seen, written_if, key_answer, ended_answer, expire_answer, after_expiry, was_member, members_in, after_join, each_written, each_joined, OnlyMembers, AreNew};
 
 use crate::RegistryError;
 use crate::writes::member_key;
 use gz_keyspace::{Joined, KeyError, KeySpace, print_joined};
-use gz_label::{Blob, KeyWrite, Name, NoMemory};
+use gz_label::{Blob, Compare, KeyWrite, Name, NoMemory};
 use indexmap::IndexMap;
 use std::slice;
 
@@ -26,6 +26,22 @@ pub fn write_all(keys: &mut KeySpace, writes: &[KeyWrite]) -> Result<u64, Regist
         Err(KeyError::KeysEnd) => Err(RegistryError::KeysEnd),
         Err(KeyError::NoMemory) => Err(RegistryError::NoMemory),
         Err(_) => unreachable!(),
+    }
+}
+
+/// A transaction of one compare and one write, where it can be made. The answer is whether it was.
+pub fn try_one(keys: &mut KeySpace, compare: &Compare, write: &KeyWrite) -> Result<bool, NoMemory>
+    ensures answer { IfOk result
+        (λ made. made ≡ is_ok (txn_answer (compare.now ∷ []) (write.now ∷ []) keys.old)) }
+    ensures ok { OnOk result
+        (keys.new
+        ≡ written_if (txn_answer (compare.now ∷ []) (write.now ∷ []) keys.old) write.now keys.old) }
+    ensures err { OnErr result (keys.new ≡ keys.old) }
+{
+    match keys.txn(slice::from_ref(compare), slice::from_ref(write)) {
+        Ok(_) => Ok(true),
+        Err(KeyError::NoMemory) => Err(NoMemory),
+        Err(_) => Ok(false),
     }
 }
 

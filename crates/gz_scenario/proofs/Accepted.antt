@@ -28,7 +28,7 @@ use Rattle.gz_links.proofs.Fields.{fields_went}
 use Rattle.gz_links.proofs.Whole.{whole_good}
 use Rattle.gz_scenario.specs.Refusals.{on_line, specs_on_line}
 use Rattle.gz_frame.specs.Messages.{max_key, max_value}
-use Rattle.gz_scenario.specs.Events.{max_clock, max_producer, max_lines, max_line, flag_at, short_text, short_if, short_or_none, draft_members, draft_in, drafts_from, some_drafts, publish_members, publish_in, settle_in, apply_members, apply_in, joining, one_joining, join_members, join_in, expire_in, change_event, later_event, event_if, event_in, event_of}
+use Rattle.gz_scenario.specs.Events.{max_clock, max_producer, max_lines, max_line, flag_at, short_text, short_if, short_or_none, draft_members, draft_in, drafts_from, some_drafts, publish_members, publish_in, settle_in, converge_in, apply_members, apply_in, joining, one_joining, join_members, join_in, expire_in, change_event, later_event, event_if, event_in, event_of}
 use Rattle.gz_scenario.specs.Lawful.{is_short_text, is_draft, is_publish, is_start, is_apply, is_joiner, is_event}
 use Rattle.gz_scenario.specs.declared.error.ScenarioError.{ScenarioError}
 use Rattle.gz_scenario.specs.declared.error.ScenarioError.TheVariants as error
@@ -239,14 +239,21 @@ settle_good d e is =
     let h = step (has_only [] (codes "do" ∷ []) d) _ e is in
     subst (λ x. is_event x ≡ true) (same_ok event.Settle e h.2) refl
 
-change_turn : (number : ℕ) (d : Data) (e : Event) (a j x : Bool)
+converge_good : (d : Data) (e : Event) → converge_in d ≡ Ok e → is_event e ≡ true
+unfolding converge_in
+converge_good d e is =
+    let h = step (has_only [] (codes "do" ∷ []) d) _ e is in
+    subst (λ x. is_event x ≡ true) (same_ok event.Converge e h.2) refl
+
+change_turn : (number : ℕ) (d : Data) (e : Event) (a j x c : Bool)
     → cond a (on_line number event.Apply (apply_in d)) (cond j (on_line number event.Join (join_in d))
-    (cond x (on_line number event.Expire (expire_in d)) (Err (error.Unknown number)))) ≡ Ok e
+    (cond x (on_line number event.Expire (expire_in d)) (cond c (on_line number (λ x. x) (converge_in d)) (Err (error.Unknown number))))) ≡ Ok e
     → is_event e ≡ true
-change_turn number d e true j x is = said number event.Apply (apply_in d) e (λ part there. apply_good d part there) is
-change_turn number d e false true x is = said number event.Join (join_in d) e (λ m there. join_good d m there) is
-change_turn number d e false false true is = said number event.Expire (expire_in d) e (λ id there. expire_good d id there) is
-change_turn number d e false false false is = absurd (no_event _ e is)
+change_turn number d e true j x c is = said number event.Apply (apply_in d) e (λ part there. apply_good d part there) is
+change_turn number d e false true x c is = said number event.Join (join_in d) e (λ m there. join_good d m there) is
+change_turn number d e false false true c is = said number event.Expire (expire_in d) e (λ id there. expire_good d id there) is
+change_turn number d e false false false true is = said number (λ x. x) (converge_in d) e (λ x there. converge_good d x there) is
+change_turn number d e false false false false is = absurd (no_event _ e is)
 
 later_turn : (number : ℕ) (verb : List ℕ) (d : Data) (e : Event) (s t : Bool) → utf8_data d ≡ true
     → cond s (on_line number event.Publish (publish_in d)) (cond t (on_line number (λ x. x) (settle_in d)) (change_event number verb d)) ≡ Ok e
@@ -254,7 +261,7 @@ later_turn : (number : ℕ) (verb : List ℕ) (d : Data) (e : Event) (s t : Bool
 later_turn number verb d e true t good is = said number event.Publish (publish_in d) e (λ p there. publish_good d p good there) is
 later_turn number verb d e false true good is = said number (λ x. x) (settle_in d) e (λ x there. settle_good d x there) is
 later_turn number verb d e false false good is =
-    change_turn number d e (bytes_eq verb (codes "apply")) (bytes_eq verb (codes "join")) (bytes_eq verb (codes "expire")) is
+    change_turn number d e (bytes_eq verb (codes "apply")) (bytes_eq verb (codes "join")) (bytes_eq verb (codes "expire")) (bytes_eq verb (codes "converge")) is
 
 first_turn : (number : ℕ) (line : List ℕ) (e : Event) (s : Bool)
     → cond s (specs_on_line number event.Specs (specs_of line)) (Err (error.Unknown number)) ≡ Ok e → is_event e ≡ true

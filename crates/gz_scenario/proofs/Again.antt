@@ -25,9 +25,9 @@ use Rattle.gz_links.proofs.Whole.{whole_good, part_judged}
 use Rattle.gz_print.proofs.SpecsBack.{journals_back, shards_back}
 use Rattle.gz_fields.specs.Paths.{at_place}
 use Rattle.gz_frame.specs.Messages.{max_key, max_value}
-use Rattle.gz_scenario.specs.Events.{draft_in, drafts_from, some_drafts, publish_in, settle_in, apply_members, apply_in, join_in, expire_in, event_in, event_of, max_lines, max_line, max_clock, max_producer}
+use Rattle.gz_scenario.specs.Events.{draft_in, drafts_from, some_drafts, publish_in, settle_in, converge_in, apply_members, apply_in, join_in, expire_in, event_in, event_of, max_lines, max_line, max_clock, max_producer}
 use Rattle.gz_scenario.specs.Lawful.{is_short_text, is_draft, is_publish, is_start, is_apply, is_joiner}
-use Rattle.gz_scenario.specs.Printed.{draft_data, publish_data, settle_data, apply_data, join_data, expire_data, IsLine}
+use Rattle.gz_scenario.specs.Printed.{draft_data, publish_data, settle_data, converge_data, apply_data, join_data, expire_data, IsLine}
 use Rattle.gz_scenario.specs.declared.event.Flag.{Flag}
 use Rattle.gz_scenario.specs.declared.event.Flag.TheVariants.{Outside, Continue, Ack}
 use Rattle.gz_scenario.specs.declared.event.Draft.{Draft}
@@ -36,7 +36,7 @@ use Rattle.gz_scenario.specs.declared.event.MemberKind.{MemberKind}
 use Rattle.gz_scenario.specs.declared.event.MemberKind.TheVariants.{Broker, Consumer}
 use Rattle.gz_scenario.specs.declared.event.Join.{Join}
 use Rattle.gz_scenario.specs.declared.event.Event.TheVariants as event
-use Rattle.gz_scenario.proofs.Floats.{publish_depth, settle_depth, apply_depth, join_depth, expire_depth}
+use Rattle.gz_scenario.proofs.Floats.{publish_depth, settle_depth, converge_depth, apply_depth, join_depth, expire_depth}
 
 left : (b c : Bool) → (b && c) ≡ true → b ≡ true
 left true c h = refl
@@ -102,6 +102,10 @@ publish_again p h =
 settle_again : settle_in settle_data ≡ Ok event.Settle
 unfolding settle_in settle_data serde_json_on_literals
 settle_again = refl
+
+converge_again : converge_in converge_data ≡ Ok event.Converge
+unfolding converge_in converge_data serde_json_on_literals
+converge_again = refl
 
 -- ---- an apply
 
@@ -180,6 +184,10 @@ settle_verb : option_and_then as_str (get (codes "do") settle_data) ≡ Some (co
 unfolding settle_data serde_json_on_literals
 settle_verb = refl
 
+converge_verb : option_and_then as_str (get (codes "do") converge_data) ≡ Some (codes "converge")
+unfolding converge_data serde_json_on_literals
+converge_verb = refl
+
 apply_verb : (part : Specs) → option_and_then as_str (get (codes "do") (apply_data part)) ≡ Some (codes "apply")
 unfolding apply_data serde_json_on_literals
 apply_verb part = refl
@@ -214,6 +222,10 @@ publish_line p line lawful reads n later few short =
 pub settle_line : (line : List ℕ) → (depth settle_data ≤ max_depth → json_of line ≡ Some settle_data) → IsLine event.Settle line
 settle_line line reads n later few short =
     rw (within n line few short, reads settle_depth, settle_verb, not_first n later, settle_again) refl
+
+pub converge_line : (line : List ℕ) → (depth converge_data ≤ max_depth → json_of line ≡ Some converge_data) → IsLine event.Converge line
+converge_line line reads n later few short =
+    rw (within n line few short, reads converge_depth, converge_verb, not_first n later, converge_again) refl
 
 pub apply_line : (part : Specs) (line : List ℕ) → is_apply part ≡ true → (depth (apply_data part) ≤ max_depth → json_of line ≡ Some (apply_data part)) → IsLine (event.Apply part) line
 apply_line part line lawful reads n later few short =

@@ -10,7 +10,7 @@ use Rattle.gz_print.specs.Printed.{journal_data, shard_data}
 use Rattle.gz_spec.specs.Records.{Specs}
 use Rattle.gz_print.proofs.Datas.{list_float, journal_float, shard_float}
 use Rattle.gz_print.proofs.Depths.{list_deep, one_up, wider, journal_deep, shard_deep}
-use Rattle.gz_scenario.specs.Printed.{draft_data, publish_data, settle_data, apply_data, join_data, expire_data}
+use Rattle.gz_scenario.specs.Printed.{draft_data, publish_data, settle_data, converge_data, apply_data, join_data, expire_data}
 use Rattle.gz_scenario.specs.declared.event.Draft.{Draft}
 use Rattle.gz_scenario.specs.declared.event.Publish.{Publish}
 use Rattle.gz_scenario.specs.declared.event.Join.{Join}
@@ -30,6 +30,10 @@ publish_no_float p = rw (drafts_no_float p.messages) refl
 pub settle_no_float : has_float settle_data ≡ false
 unfolding settle_data
 settle_no_float = refl
+
+pub converge_no_float : has_float converge_data ≡ false
+unfolding converge_data
+converge_no_float = refl
 
 draft_depth : (m : Draft) → depth (draft_data m) ≡ 1
 unfolding draft_data
@@ -52,6 +56,10 @@ publish_depth p = below_max (items_depth (items_of (map draft_data p.messages)))
 pub settle_depth : depth settle_data ≤ max_depth
 unfolding settle_data
 settle_depth = omega arith
+
+pub converge_depth : depth converge_data ≤ max_depth
+unfolding converge_data
+converge_depth = omega arith
 
 pub apply_no_float : (part : Specs) → has_float (apply_data part) ≡ false
 unfolding apply_data

@@ -104,6 +104,13 @@ settle_in d = do
   _ ← has_only [] (codes "do" ∷ []) d
   Ok event.Settle
 
+-- ---- converge
+
+unfoldable pub converge_in : Data → Result Event FieldError
+converge_in d = do
+  _ ← has_only [] (codes "do" ∷ []) d
+  Ok event.Converge
+
 -- ---- apply
 
 abbrev pub apply_members : List (List ℕ)
@@ -156,7 +163,8 @@ abbrev pub change_event : ℕ → List ℕ → Data → Result Event ScenarioErr
 change_event number verb d =
     if bytes_eq verb (codes "apply") then on_line number event.Apply (apply_in d)
     else (if bytes_eq verb (codes "join") then on_line number event.Join (join_in d)
-    else (if bytes_eq verb (codes "expire") then on_line number event.Expire (expire_in d) else Err (error.Unknown number)))
+    else (if bytes_eq verb (codes "expire") then on_line number event.Expire (expire_in d)
+    else (if bytes_eq verb (codes "converge") then on_line number (λ e. e) (converge_in d) else Err (error.Unknown number))))
 
 -- the events of later lines, by what they say to do
 abbrev pub later_event : ℕ → List ℕ → Data → Result Event ScenarioError

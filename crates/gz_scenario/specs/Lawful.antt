@@ -43,6 +43,7 @@ abbrev pub is_event : Event → Bool
 is_event (event.Specs specs) = is_start specs
 is_event (event.Publish p) = is_publish p
 is_event event.Settle = true
+is_event event.Converge = true
 is_event (event.Apply part) = is_apply part
 is_event (event.Join j) = is_joiner j.member
 is_event (event.Expire id) = is_id id

@@ -38,6 +38,9 @@ publish_data p =
 unfoldable pub settle_data : Data
 settle_data = object (member (codes "do") (string (codes "settle")) no_members)
 
+unfoldable pub converge_data : Data
+converge_data = object (member (codes "do") (string (codes "converge")) no_members)
+
 unfoldable pub apply_data : Specs → Data
 apply_data part =
     object (member (codes "do") (string (codes "apply"))
@@ -58,6 +61,7 @@ abbrev pub event_data : Event → Data
 event_data (event.Specs specs) = specs_data_as (codes "specs") specs
 event_data (event.Publish p) = publish_data p
 event_data event.Settle = settle_data
+event_data event.Converge = converge_data
 event_data (event.Apply part) = apply_data part
 event_data (event.Join j) = join_data j
 event_data (event.Expire id) = expire_data id
@@ -67,6 +71,7 @@ abbrev pub MayStandOn : ℕ → Event → Type 0
 MayStandOn n (event.Specs specs) = n ≡ 1
 MayStandOn n (event.Publish p) = 2 ≤ n
 MayStandOn n event.Settle = 2 ≤ n
+MayStandOn n event.Converge = 2 ≤ n
 MayStandOn n (event.Apply part) = 2 ≤ n
 MayStandOn n (event.Join j) = 2 ≤ n
 MayStandOn n (event.Expire id) = 2 ≤ n

@@ -103,6 +103,8 @@ pub enum Event {
     Publish(Publish),
     /// Everything that is due happens.
     Settle,
+    /// Routes and lists of consumers move towards what is placed.
+    Converge,
     /// These journals and shards are added, each in the place of the one of its name where there is one. The
     /// lists of members are empty.
     Apply(Specs),

@@ -17,5 +17,7 @@ mod read;
 
 pub use error::ScenarioError;
 pub use event::{Draft, Drafts, Event, Flag, Join, MemberKind, Publish};
-pub use print::{print_apply, print_event, print_expire, print_join, print_publish, print_settle};
+pub use print::{
+    print_apply, print_converge, print_event, print_expire, print_join, print_publish, print_settle,
+};
 pub use read::read_event;

@@ -4,7 +4,7 @@ ghost use Rattle.serde_json.specs.Data.{object, string, member, no_members, put}
 ghost use Rattle.serde_json.specs.View.{view, items_view, items_of};
 ghost use Rattle.serde_json.specs.Written.{compact_text};
 ghost use Rattle.gz_print.specs.Printed.{member_data, specs_data_as};
-ghost use Rattle.gz_scenario.specs.Printed.{flag_text, draft_data, publish_data, settle_data, apply_data, join_data, expire_data, event_data, IsLine};
+ghost use Rattle.gz_scenario.specs.Printed.{flag_text, draft_data, publish_data, settle_data, converge_data, apply_data, join_data, expire_data, event_data, IsLine};
 ghost use Rattle.gz_scenario.specs.Lawful.{is_start, is_publish, is_apply, is_joiner, is_event};
 ghost use Rattle.gz_fields.specs.Names.{is_id};
 ghost use Rattle.gz_scenario.specs.declared.event.Event.TheVariants as event;
@@ -122,6 +122,29 @@ pub fn print_settle(alloc: Global) -> Result<Blob, NoMemory>
     Ok(line)
 }
 
+#[tactic(auto, unfolding(crate::specs::Printed::converge_data))]
+fn value_of_converge(alloc: Global) -> Result<Value, NoMemory>
+    ensures { IfOk result (λ value. view value ≡ converge_data) }
+{
+    let mut members = Map::new(alloc);
+    members.insert(
+        String::from_str(alloc, "do")?,
+        Value::try_from_str(alloc, "converge")?,
+    )?;
+    Ok(Value::from(members))
+}
+
+/// The line of a converge, without its newline, which is read back as one.
+#[tactic(auto, using(crate::proofs::Floats::converge_no_float, crate::proofs::Floats::converge_depth, crate::proofs::Again::converge_line))]
+pub fn print_converge(alloc: Global) -> Result<Blob, NoMemory>
+    ensures text { IfOk result (λ line. line ≡ compact_text converge_data) }
+    ensures reads_back { IfOk result (λ line. IsLine event.Converge line) }
+{
+    let value = value_of_converge(alloc)?;
+    let line = gz_json::print(alloc, &value)?;
+    Ok(line)
+}
+
 #[tactic(auto, unfolding(crate::specs::Printed::apply_data))]
 fn value_of_apply(alloc: Global, part: &Specs) -> Result<Value, NoMemory>
     ensures { IfOk result (λ value. view value ≡ apply_data part.now) }
@@ -210,7 +233,7 @@ fn value_of_expire(alloc: Global, id: &Name) -> Result<Value, NoMemory>
 
 /// The line of an expire, without its newline. Where the id is one by its form, and the line short enough, it is
 /// read back as the same.
-#[tactic(auto, using(crate::proofs::Floats::expire_no_float, crate::proofs::Again::expire_line))]
+#[tactic(auto, using(crate::proofs::Floats::expire_no_float))]
 pub fn print_expire(alloc: Global, id: &Name) -> Result<Blob, NoMemory>
     ensures text { IfOk result (λ line. line ≡ compact_text (expire_data id.now)) }
     ensures reads_back { IfOk result
@@ -245,6 +268,7 @@ pub fn print_event(alloc: Global, event: &Event) -> Result<Blob, NoMemory>
         Event::Specs(specs) => print_start(alloc, specs),
         Event::Publish(publish) => print_publish(alloc, publish),
         Event::Settle => print_settle(alloc),
+        Event::Converge => print_converge(alloc),
         Event::Apply(part) => print_apply(alloc, part),
         Event::Join(join) => print_join(alloc, join),
         Event::Expire(id) => print_expire(alloc, id),

@@ -4,7 +4,7 @@ ghost use Rattle.serde_json.specs.View.{view};
 ghost use Rattle.gz_fields.specs.Outcomes.{Gives as GivesFields};
 ghost use Rattle.gz_scenario.specs.Outcomes.{Gives};
 ghost use Rattle.gz_scenario.specs.Refusals.{on_line};
-ghost use Rattle.gz_scenario.specs.Events.{settle_in, change_event, later_event, event_named, event_in, event_of};
+ghost use Rattle.gz_scenario.specs.Events.{settle_in, converge_in, change_event, later_event, event_named, event_in, event_of};
 ghost use Rattle.gz_scenario.specs.Lawful.{is_event};
 
 use crate::change::{read_apply, read_expire, read_join};
@@ -31,6 +31,14 @@ fn read_settle(alloc: Global, value: &Value) -> Result<Event, FieldError>
     Ok(Event::Settle)
 }
 
+#[tactic(auto, unfolding(crate::specs::Events::converge_in))]
+fn read_converge(alloc: Global, value: &Value) -> Result<Event, FieldError>
+    ensures { GivesFields (λ e. e) result (converge_in (view value.now)) }
+{
+    refuse_unknown(alloc, &Blob::new(alloc), value, &["do"])?;
+    Ok(Event::Converge)
+}
+
 /// The event that changes what is there, by what it says to do.
 fn read_change(
     alloc: Global,
@@ -55,6 +63,12 @@ fn read_change(
     if verb == "expire" {
         return match read_expire(alloc, value) {
             Ok(id) => Ok(Event::Expire(id)),
+            Err(e) => Err(bad_field(number, e)),
+        };
+    }
+    if verb == "converge" {
+        return match read_converge(alloc, value) {
+            Ok(event) => Ok(event),
             Err(e) => Err(bad_field(number, e)),
         };
     }

@@ -1,7 +1,7 @@
 // Each answer of the calls, once, and what the key space has then.
 
 use gz_keyspace::{Joined, read_joined};
-use gz_label::Name;
+use gz_label::{Blob, Compare, KeyWrite, Name};
 use gz_registry::{Registry, RegistryError};
 use gz_spec::{Specs, read_part};
 use std::alloc::Global;
@@ -73,6 +73,19 @@ fn expire(alloc: Global, registry: &mut Registry, id: &[u8]) -> Result<Option<u6
     }
 }
 
+// Whether the route of the journal `b` was put, where its key has this revision.
+fn try_route(alloc: Global, registry: &mut Registry, revision: u64) -> Result<bool, Fail> {
+    let compare = Compare {
+        key: Name::of(alloc, "route/b")?,
+        mod_revision: revision,
+    };
+    let write = KeyWrite {
+        key: Name::of(alloc, "route/b")?,
+        value: Some(Blob::of(alloc, b"m2")?),
+    };
+    Ok(registry.try_write(&compare, &write)?)
+}
+
 fn was_member(alloc: Global, registry: &Registry, id: &[u8]) -> Result<bool, Fail> {
     let id = Name::read(alloc, id)?;
     Ok(registry.was_member(&id))
@@ -122,5 +135,22 @@ fn joins(rt: HostRuntime) -> Result<(), Fail> {
     }
     assert_eq!(rt; registry.revision(), 65);
     assert_eq!(rt; revision_of(alloc, &registry, "member/n00")?, 4);
+    Ok(())
+}
+
+#[test]
+fn tries(rt: HostRuntime) -> Result<(), Fail> {
+    let alloc = rt.alloc();
+    let mut registry = begun(alloc)?;
+    for (seen, made, revision) in [(3, false, 0), (0, true, 4), (0, false, 4), (4, true, 5)] {
+        assert_eq!(rt; try_route(alloc, &mut registry, seen)?, made, "of {seen}");
+        assert_eq!(rt;
+            revision_of(alloc, &registry, "route/b")?,
+            revision,
+            "of {seen}"
+        );
+        assert_eq!(rt; registry.keys().revision(), registry.revision());
+    }
+    assert!(rt; was_member(alloc, &registry, b"m2")?);
     Ok(())
 }

@@ -1,7 +1,7 @@
 //! Limits of lines, and events that are printed. Rows of lines that miss an event by a thing each, and of events as they
 //! are printed, stand in `gz_tables/stdin`.
 use gz_label::Blob;
-use gz_scenario::{Event, Flag, print_publish, print_settle, read_event};
+use gz_scenario::{Event, Flag, print_converge, print_publish, print_settle, read_event};
 use std::alloc::Global;
 use std::test::Fail;
 
@@ -58,5 +58,31 @@ fn a_publish_is_read_and_printed(rt: HostRuntime) -> Result<(), Fail> {
     assert!(rt; line.len() > 0);
     let settle = print_settle(alloc)?;
     assert_eq!(rt; settle.as_slice(), b"{\"do\":\"settle\"}".as_slice());
+    Ok(())
+}
+
+#[test]
+fn a_converge_is_read_and_printed(rt: HostRuntime) -> Result<(), Fail> {
+    let alloc = rt.alloc();
+    let Event::Converge = event_of(alloc, "{\"do\":\"converge\"}")? else {
+        return Err(Fail::from("no converge"));
+    };
+    let line = print_converge(alloc)?;
+    assert_eq!(rt; line.as_slice(), b"{\"do\":\"converge\"}".as_slice());
+    for (number, line, want) in [
+        (
+            1,
+            b"{\"do\":\"converge\"}".as_slice(),
+            b"line 1: unknown event".as_slice(),
+        ),
+        (
+            2,
+            b"{\"do\":\"converge\",\"a\":1}".as_slice(),
+            b"line 2: bad field a".as_slice(),
+        ),
+    ] {
+        let text = refused(alloc, number, line)?;
+        assert_eq!(rt; text.as_slice(), want, "of line {number}");
+    }
     Ok(())
 }

@@ -24,7 +24,11 @@ mod label_tests;
 #[cfg(test)]
 mod lines_tests;
 #[cfg(test)]
+mod memory_tests;
+#[cfg(test)]
 mod messages_tests;
+#[cfg(test)]
+mod ranks_tests;
 #[cfg(test)]
 mod recovery_tests;
 #[cfg(test)]

@@ -24,7 +24,7 @@ use Rattle.gz_scenario.specs.declared.event.Flag.TheVariants.{Outside, Continue,
 use Rattle.gz_scenario.specs.declared.event.Draft.{Draft}
 use Rattle.gz_scenario.specs.declared.event.Publish.{Publish as Published}
 use Rattle.gz_scenario.specs.declared.event.Event.{Event}
-use Rattle.gz_scenario.specs.declared.event.Event.TheVariants.{Specs as Begins, Publish, Settle, Apply, Join as Joins, Expire}
+use Rattle.gz_scenario.specs.declared.event.Event.TheVariants.{Specs as Begins, Publish, Settle, Converge, Apply, Join as Joins, Expire}
 use Rattle.gz_client.specs.Answers.{stands}
 use Rattle.gz_client.specs.Contents.{flags_of, message_at, messages_at, messages_of, content_of}
 use Rattle.gz_client.specs.Requests.{request_of}
@@ -34,8 +34,8 @@ use Rattle.gz_promise.specs.Journals.{appended}
 use Rattle.gz_plain.specs.Runs as plain
 use Rattle.gz_plain.specs.Shards as shards
 use Rattle.gz_world.specs.declared.reply.Reason.{Reason}
-use Rattle.gz_world.specs.Worlds.{World, answer_to, with_landed, reason_of, told_of, published, registered, judged_joined, with_specs, judged_join, judged_expire, with_registry, after}
-use Rattle.gz_world.specs.Run.{max_input, judged, run}
+use Rattle.gz_converge.specs.declared.answer.Converged.{Converged}
+use Rattle.gz_world.specs.Worlds.{World, Step, answer_to, with_landed, reason_of, told_of, published, registered, judged_joined, with_specs, judged_join, judged_expire, with_registry, converged_if, settled, after}
 use Rattle.gz_world.proofs.Ready.{apply_valid, landed_specified, settled_specified}
 use Rattle.gz_world.proofs.Tied.{IsTied, happens, with_tied}
 
@@ -137,13 +137,19 @@ registry_tied line w (Err reason) t = t
 abbrev pub IsRunning : World → Type 0
 IsRunning w = IsTied w.specs w.cluster
 
-pub event_tied : (line : ℕ) (e : Event) (w : World) → is_event e ≡ true → IsRunning w → IsRunning (after line e w)
-event_tied line (Begins specs) w lawful t = t
-event_tied line (Publish p) w lawful t = publish_tied line p w (drafts_of p lawful) t
-event_tied line Settle w lawful t = settle_tied w.specs w.cluster t
-event_tied line (Apply more) w lawful t = join_tied line more w (join_of w.specs more) (apply_valid more lawful) refl t
-event_tied line (Joins j) w lawful t = registry_tied line w (judged_join w j) t
-event_tied line (Expire name) w lawful t = registry_tied line w (judged_expire w name) t
+-- a converge changes neither
+pub converge_tied : (answer : Option Converged) (w : World) → IsRunning w → IsRunning (converged_if answer w)
+converge_tied None w t = t
+converge_tied (Some answer) w t = t
+
+pub event_tied : (s : Step) (e : Event) (w : World) → is_event e ≡ true → IsRunning w → IsRunning (after s e w)
+event_tied s (Begins specs) w lawful t = t
+event_tied s (Publish p) w lawful t = publish_tied s.line p w (drafts_of p lawful) t
+event_tied s Settle w lawful t = settle_tied (converged_if s.answer w).specs (converged_if s.answer w).cluster (converge_tied s.answer w t)
+event_tied s Converge w lawful t = converge_tied s.answer w t
+event_tied s (Apply more) w lawful t = join_tied s.line more w (join_of w.specs more) (apply_valid more lawful) refl t
+event_tied s (Joins j) w lawful t = registry_tied s.line w (judged_join w j) t
+event_tied s (Expire name) w lawful t = registry_tied s.line w (judged_expire w name) t
 
 -- ---- all lines
 

@@ -17,3 +17,4 @@ pub mod Happened
 pub mod Runs
 pub mod Promises
 pub mod Refusals
+pub mod Tries

@@ -17,8 +17,7 @@ use Rattle.gz_scenario.specs.declared.error.ScenarioError.TheVariants.{Limit, No
 use Rattle.gz_scenario.specs.declared.event.Event.{Event}
 use Rattle.gz_scenario.specs.declared.event.Event.TheVariants.{Specs}
 use Rattle.gz_model.specs.Steps.{◌>>=◌}
-use Rattle.gz_world.specs.Worlds.{World, after}
-use Rattle.gz_world.specs.Run.{max_input, started, judged, judged_first}
+use Rattle.gz_world.specs.Run.{Scenario, max_input, started, judged, judged_first, with_event}
 use Rattle.gz_world.specs.Replays.{refused_or, Fails}
 
 -- a reader's error is the refusal of a line, or out of memory
@@ -65,19 +64,19 @@ event_long : (number : ℕ) (line : List ℕ) → max_line < length line → eve
 unfolding event_of
 event_long number line long = rw (not_within (nat_le number max_lines) (length line) max_line long) refl
 
-long_if : (t : Bool) (number : ℕ) (r : Result World ScenarioError) → r ≡ Err (Limit number) → cond t r (Err (Limit number)) ≡ Err (Limit number)
+long_if : (t : Bool) (number : ℕ) (r : Result Scenario ScenarioError) → r ≡ Err (Limit number) → cond t r (Err (Limit number)) ≡ Err (Limit number)
 long_if true number r is = is
 long_if false number r is = refl
 
-pub long_judged : (number before : ℕ) (line : List ℕ) (w : World) → max_line < length line → judged number before line w ≡ Err (Limit number)
+pub long_judged : (number before : ℕ) (line : List ℕ) (w : Scenario) → max_line < length line → judged number before line w ≡ Err (Limit number)
 long_judged number before line w long =
-    long_if (nat_le (before + length line) max_input) number (event_of number line >>= λ e. Ok (after number e w)) (rw (event_long number line long) refl)
+    long_if (nat_le (before + length line) max_input) number (event_of number line >>= λ e. Ok (with_event number e w)) (rw (event_long number line long) refl)
 
 pub long_first : (line : List ℕ) → max_line < length line → judged_first line ≡ Err (Limit 1)
 long_first line long = rw (event_long 1 line long) refl
 
--- the line that starts a world isn't too long
-first_within : (line : List ℕ) (r : Result Event ScenarioError) (w : World) → event_of 1 line ≡ r → (r >>= λ e. started e) ≡ Ok w → length line ≤ 134217728
+-- the line that starts a scenario isn't too long
+first_within : (line : List ℕ) (r : Result Event ScenarioError) (w : Scenario) → event_of 1 line ≡ r → (r >>= λ e. started e) ≡ Ok w → length line ≤ 134217728
 unfolding event_of
 first_within line (Ok e) w said is =
     let c = chosen (nat_le 1 max_lines && nat_le (length line) max_line) (event_in 1 line (json_of line)) (Limit 1) e said in
@@ -85,5 +84,5 @@ first_within line (Ok e) w said is =
     omega (arith, least)
 first_within line (Err e) w said is = absurd (cc)
 
-pub first_short : (line : List ℕ) (w : World) → judged_first line ≡ Ok w → length line ≤ 134217728
+pub first_short : (line : List ℕ) (w : Scenario) → judged_first line ≡ Ok w → length line ≤ 134217728
 first_short line w is = first_within line (event_of 1 line) w refl is

@@ -1,122 +1,119 @@
 -- What every run keeps of its shards.
-use Rattle.std.proofs.Common.{◌≡◌, ℕ, ◌+◌, List, [], ◌∷◌, ◌++◌, length, nat_le, append_assoc, append-nil, refl, sym, ap, ◌∙◌, subst, cond, Some, Bool, true, false, Result, Ok, Err}
+use Rattle.std.proofs.Common.{◌≡◌, ℕ, ◌+◌, List, [], ◌∷◌, ◌++◌, length, nat_le, append_assoc, append-nil, refl, sym, ap, ◌∙◌, subst, cond, Option, Some, None, Bool, true, false, Result, Ok, Err}
 use Rattle.std.specs.Prelude.{⊤}
 use Rattle.gz_model.specs.Steps.{◌>>=◌}
 use Rattle.gz_spec.specs.Records.{Specs as SpecLists}
+use Rattle.std.specs.List.{list_all}
+use Rattle.gz_converge.specs.declared.answer.Converged.{Converged}
 use Rattle.gz_scenario.specs.Events.{event_of}
+use Rattle.gz_scenario.specs.Lawful.{is_start, is_event}
 use Rattle.gz_scenario.proofs.Accepted.{event_good}
 use Rattle.gz_scenario.specs.declared.error.ScenarioError.{ScenarioError}
 use Rattle.gz_scenario.specs.declared.error.ScenarioError.TheVariants.{Limit}
 use Rattle.gz_scenario.specs.declared.event.Event.{Event}
-use Rattle.gz_scenario.specs.declared.event.Event.TheVariants.{Specs as Begins, Publish, Settle, Apply, Join, Expire}
+use Rattle.gz_scenario.specs.declared.event.Event.TheVariants.{Specs as Begins, Publish, Settle, Converge, Apply, Join, Expire}
 use Rattle.gz_promise.specs.Order.{AreInOrder}
 use Rattle.gz_plain.specs.Rests.{AllRest, wirings_of}
 use Rattle.gz_plain.specs.Promise.{AllCommitLines, AllExactlyOnce, AllServe}
 use Rattle.gz_plain.specs.Reports.{AllTellCaught, AllUpToDate}
 use Rattle.gz_plain.specs.Shards as shards
 use Rattle.gz_plain.proofs.Promises.{all_exactly_once_after, all_lines_after, all_serve, all_rest_after, all_tell_after, all_up_to_date_after}
-use Rattle.gz_world.specs.Worlds.{World, world_start, settled, after, IsRun}
-use Rattle.gz_world.specs.Run.{max_input, started, judged, judged_first, run, outcome_from, AreSaid, IsSaid}
+use Rattle.gz_world.specs.Worlds.{World, converged_if, settled, IsRun}
+use Rattle.gz_world.specs.Run.{Scenario, max_input, started, judged, judged_first, with_event, read_on, outcome_from, AreSaid, IsSaid, IsLawful}
 use Rattle.gz_world.proofs.Events.{step, same_ok, passed}
 use Rattle.gz_world.proofs.Good.{are_good}
-use Rattle.gz_world.proofs.Happened.{start_run, run_more, run_is_tied, begun_stays}
+use Rattle.gz_world.proofs.Happened.{run_is_tied}
 use Rattle.gz_world.proofs.Wired.{in_order}
 
--- ---- a run
+-- ---- what lines say
 
--- further lines make this of a world of a run: they say its further events
-record GoesOn (number : ℕ) (lines : List (List ℕ)) (w v : World) : Type 0 where
-  run : IsRun v
-  begun : v.begun ≡ w.begun
+-- further lines say further events of a scenario
+record GoesOn (number : ℕ) (lines : List (List ℕ)) (s t : Scenario) : Type 0 where
+  begun : t.begun ≡ s.begun
   more : List (ℕ × Event)
-  events : v.events ≡ w.events ++ more
+  events : t.events ≡ s.events ++ more
+  lawful : list_all (λ h. is_event h.1) more ≡ true
   said : AreSaid number lines more
 
--- what one line makes
-record Takes (number : ℕ) (line : List ℕ) (w u : World) : Type 0 where
-  run : IsRun u
+-- what one line says
+record Takes (number : ℕ) (line : List ℕ) (s u : Scenario) : Type 0 where
   event : Event
   said : event_of number line ≡ Ok event
-  begun : u.begun ≡ w.begun
-  events : u.events ≡ w.events ++ (number, event) ∷ []
+  is : u ≡ with_event number event s
 
-line_taken : (number before : ℕ) (line : List ℕ) (w u : World) → judged number before line w ≡ Ok u → IsRun w → Takes number line w u
-line_taken number before line w u is r =
-    let said = passed (nat_le (before + length line) max_input) (event_of number line >>= λ e. Ok (after number e w)) (Limit number) u is in
-    let s = step (event_of number line) (λ e. Ok (after number e w)) u said in
-    subst (λ (x : World). Takes number line w x) (same_ok (after number s.0 w) u s.2) (record {
-      run = run_more number s.0 w (event_good number line s.0 s.1) r;
-      event = s.0;
-      said = s.1;
-      begun = begun_stays number s.0 w;
-      events = refl;
-    })
+line_taken : (number before : ℕ) (line : List ℕ) (s u : Scenario) → judged number before line s ≡ Ok u → Takes number line s u
+line_taken number before line s u is =
+    let said = passed (nat_le (before + length line) max_input) (event_of number line >>= λ e. Ok (with_event number e s)) (Limit number) u is in
+    let t = step (event_of number line) (λ e. Ok (with_event number e s)) u said in
+    record { event = t.0; said = t.1; is = sym (same_ok (with_event number t.0 s) u t.2) }
 
-goes_further : (number : ℕ) (line : List ℕ) (lines : List (List ℕ)) (w u v : World) → Takes number line w u → GoesOn (number + 1) lines u v → GoesOn number (line ∷ lines) w v
-goes_further number line lines w u v t g = record {
-  run = g.run;
-  begun = g.begun ∙ t.begun;
+goes_further : (number : ℕ) (line : List ℕ) (lines : List (List ℕ)) (s u v : Scenario) → Takes number line s u → GoesOn (number + 1) lines u v → GoesOn number (line ∷ lines) s v
+goes_further number line lines s u v t g = record {
+  begun = g.begun ∙ ap (λ (x : Scenario). x.begun) t.is;
   more = (number, t.event) ∷ g.more;
-  events = g.events ∙ ap (λ (es : List (ℕ × Event)). es ++ g.more) t.events ∙ append_assoc w.events ((number, t.event) ∷ []) g.more;
+  events = g.events ∙ ap (λ (x : Scenario). x.events ++ g.more) t.is ∙ append_assoc s.events ((number, t.event) ∷ []) g.more;
+  lawful = rw (event_good number line t.event t.said, g.lawful) refl;
   said = (refl, t.said, g.said);
 }
 
-goes_on : (lines : List (List ℕ)) (number before : ℕ) (w v : World) → run lines number before w ≡ Ok v → IsRun w → GoesOn number lines w v
-goes_on [] number before w v is r =
-    subst (λ (x : World). GoesOn number [] w x) (same_ok w v is) (record { run = r; begun = refl; more = []; events = sym (append-nil w.events); said = tt })
-goes_on (line ∷ lines) number before w v is r =
-    let s = step (judged number before line w) (λ next. run lines (number + 1) (before + length line) next) v is in
-    let t = line_taken number before line w s.0 s.1 r in
-    goes_further number line lines w s.0 v t (goes_on lines (number + 1) (before + length line) s.0 v s.2 t.run)
+goes_on : (lines : List (List ℕ)) (number before : ℕ) (s v : Scenario) → read_on lines number before s ≡ Ok v → GoesOn number lines s v
+goes_on [] number before s v is =
+    subst (λ (x : Scenario). GoesOn number [] s x) (same_ok s v is) (record { begun = refl; more = []; events = sym (append-nil s.events); lawful = refl; said = tt })
+goes_on (line ∷ lines) number before s v is =
+    let t = step (judged number before line s) (λ next. read_on lines (number + 1) (before + length line) next) v is in
+    goes_further number line lines s t.0 v (line_taken number before line s t.0 t.1) (goes_on lines (number + 1) (before + length line) t.0 v t.2)
 
--- the first line starts a world of a run
-record Starts (line : List ℕ) (w : World) : Type 0 where
-  run : IsRun w
-  said : event_of 1 line ≡ Ok (Begins w.begun)
-  events : w.events ≡ []
+-- the first line starts a scenario
+record Starts (line : List ℕ) (s : Scenario) : Type 0 where
+  start : is_start s.begun ≡ true
+  said : event_of 1 line ≡ Ok (Begins s.begun)
+  events : s.events ≡ []
 
-begun_by : (line : List ℕ) (e : Event) (w : World) → event_of 1 line ≡ Ok e → started e ≡ Ok w → Starts line w
-begun_by line (Begins specs) w said is =
-    subst (λ (x : World). Starts line x) (same_ok (world_start specs) w is) (record {
-      run = start_run specs (world_start specs) (event_good 1 line (Begins specs) said) refl;
+begun_by : (line : List ℕ) (e : Event) (s : Scenario) → event_of 1 line ≡ Ok e → started e ≡ Ok s → Starts line s
+begun_by line (Begins specs) s said is =
+    subst (λ (x : Scenario). Starts line x) (same_ok (record { begun = specs; events = [] }) s is) (record {
+      start = event_good 1 line (Begins specs) said;
       said = said;
       events = refl;
     })
-begun_by line (Publish p) w said is = absurd (cc)
-begun_by line Settle w said is = absurd (cc)
-begun_by line (Apply more) w said is = absurd (cc)
-begun_by line (Join j) w said is = absurd (cc)
-begun_by line (Expire name) w said is = absurd (cc)
+begun_by line (Publish p) s said is = absurd (cc)
+begun_by line Settle s said is = absurd (cc)
+begun_by line Converge s said is = absurd (cc)
+begun_by line (Apply more) s said is = absurd (cc)
+begun_by line (Join j) s said is = absurd (cc)
+begun_by line (Expire name) s said is = absurd (cc)
 
-some_of : (r : Result World ScenarioError) (v : World) → (r >>= λ w. Ok (Some w)) ≡ Ok (Some v) → r ≡ Ok v
-some_of (Ok w) v is = cc
+some_of : (r : Result Scenario ScenarioError) (v : Scenario) → (r >>= λ s. Ok (Some s)) ≡ Ok (Some v) → r ≡ Ok v
+some_of (Ok s) v is = cc
 some_of (Err e) v is = cc
 
-both_said : (line : List ℕ) (lines : List (List ℕ)) (w v : World) → Starts line w → GoesOn 2 lines w v → IsRun v × IsSaid (line ∷ lines) v
-both_said line lines w v s g =
-    let events : v.events ≡ g.more = g.events ∙ ap (λ (es : List (ℕ × Event)). es ++ g.more) s.events in (
-      g.run,
+both_said : (line : List ℕ) (lines : List (List ℕ)) (s v : Scenario) → Starts line s → GoesOn 2 lines s v → IsLawful v × IsSaid (line ∷ lines) v
+both_said line lines s v first g =
+    let events : v.events ≡ g.more = g.events ∙ ap (λ (es : List (ℕ × Event)). es ++ g.more) first.events in (
+      record {
+        start = subst (λ (specs : SpecLists). is_start specs ≡ true) (sym g.begun) first.start;
+        events = subst (λ (es : List (ℕ × Event)). list_all (λ h. is_event h.1) es ≡ true) (sym events) g.lawful;
+      },
       (
-        subst (λ (specs : SpecLists). event_of 1 line ≡ Ok (Begins specs)) (sym g.begun) s.said,
+        subst (λ (specs : SpecLists). event_of 1 line ≡ Ok (Begins specs)) (sym g.begun) first.said,
         subst (λ (es : List (ℕ × Event)). AreSaid 2 lines es) (sym events) g.said,
       ),
     )
 
-is_run : (lines : List (List ℕ)) (v : World) → outcome_from lines ≡ Ok (Some v) → IsRun v × IsSaid lines v
-is_run [] v is = absurd (cc)
-is_run (line ∷ lines) v is =
-    let first = step (judged_first line) (λ w. run lines 2 (length line) w >>= λ x. Ok (Some x)) (Some v) is in
-    let rest = some_of (run lines 2 (length line) first.0) v first.2 in
+is_said : (lines : List (List ℕ)) (v : Scenario) → outcome_from lines ≡ Ok (Some v) → IsLawful v × IsSaid lines v
+is_said [] v is = absurd (cc)
+is_said (line ∷ lines) v is =
+    let first = step (judged_first line) (λ s. read_on lines 2 (length line) s >>= λ x. Ok (Some x)) (Some v) is in
+    let rest = some_of (read_on lines 2 (length line) first.0) v first.2 in
     let said = step (event_of 1 line) (λ e. started e) first.0 first.1 in
-    let s = begun_by line said.0 first.0 said.1 said.2 in
-    both_said line lines first.0 v s (goes_on lines 2 (length line) first.0 v rest s.run)
+    both_said line lines first.0 v (begun_by line said.0 first.0 said.1 said.2) (goes_on lines 2 (length line) first.0 v rest)
 
--- lines that give a world say its events, and it is what these made of the specifications that it began with
-pub outcome_is_run : (lines : List (List ℕ)) (v : World) → outcome_from lines ≡ Ok (Some v) → IsRun v
-outcome_is_run lines v is = (is_run lines v is).0
+-- lines that give a scenario say its events, and these are such as reading accepts
+pub outcome_is_lawful : (lines : List (List ℕ)) (v : Scenario) → outcome_from lines ≡ Ok (Some v) → IsLawful v
+outcome_is_lawful lines v is = (is_said lines v is).0
 
-pub outcome_is_said : (lines : List (List ℕ)) (v : World) → outcome_from lines ≡ Ok (Some v) → IsSaid lines v
-outcome_is_said lines v is = (is_run lines v is).1
+pub outcome_is_said : (lines : List (List ℕ)) (v : Scenario) → outcome_from lines ≡ Ok (Some v) → IsSaid lines v
+outcome_is_said lines v is = (is_said lines v is).1
 
 -- ---- the laws
 
@@ -140,16 +137,25 @@ ordered v r =
     let good = are_good v.specs t.specified.valid in
     in_order t.ranked.0 v.specs.shards v.cluster.shards good.fresh t.ranked.1 t.specified.said
 
-pub run_rests : (v : World) → IsRun v → AllRest (settled v).cluster.journals (settled v).cluster.shards
-run_rests v r =
+rests : (v : World) → IsRun v → AllRest (settled v).cluster.journals (settled v).cluster.shards
+rests v r =
     let t = run_is_tied v r in
     subst (λ (c : shards.World). AllRest (shards.settled c).journals (shards.settled c).shards) (sym t.reached)
     (all_rest_after t.happened t.ranked.0 t.may (subst (λ (c : shards.World). AreInOrder t.ranked.0 (wirings_of c.shards)) t.reached (ordered v r)))
+
+-- a converge changes neither journals nor shards
+pub run_rests : (v : World) (answer : Option Converged) → IsRun v → AllRest (settled (converged_if answer v)).cluster.journals (settled (converged_if answer v)).cluster.shards
+run_rests v None r = rests v r
+run_rests v (Some answer) r = rests v r
 
 pub run_tells : (v : World) → IsRun v → AllTellCaught v.cluster.journals v.cluster.shards
 run_tells v r =
     let t = run_is_tied v r in
     subst (λ (c : shards.World). AllTellCaught c.journals c.shards) (sym t.reached) (all_tell_after t.happened t.may)
 
-pub run_settled_tells : (v : World) → IsRun v → AllUpToDate (settled v).cluster.journals (settled v).cluster.shards
-run_settled_tells v r = all_up_to_date_after (run_is_tied v r).ranked.0 v.cluster (ordered v r)
+settled_tells : (v : World) → IsRun v → AllUpToDate (settled v).cluster.journals (settled v).cluster.shards
+settled_tells v r = all_up_to_date_after (run_is_tied v r).ranked.0 v.cluster (ordered v r)
+
+pub run_settled_tells : (v : World) (answer : Option Converged) → IsRun v → AllUpToDate (settled (converged_if answer v)).cluster.journals (settled (converged_if answer v)).cluster.shards
+run_settled_tells v None r = settled_tells v r
+run_settled_tells v (Some answer) r = settled_tells v r

@@ -24,6 +24,7 @@ abbrev pub Gives : {Y : Type 0} → Y → Result (Unit {0}) ReplayError → Resu
 Gives y (Ok u) judged = judged ≡ Ok y
 Gives y (Err e) judged = Fails e judged
 
-abbrev pub GivesValue : {Y : Type 0} → Result Y ReplayError → Result Y ScenarioError → Type 0
-GivesValue (Ok y) judged = judged ≡ Ok y
-GivesValue (Err e) judged = Fails e judged
+-- the value, seen so, is what was judged, unless memory ran out
+abbrev pub GivesValue : {X Y : Type 0} → (X → Y) → Result X ReplayError → Result Y ScenarioError → Type 0
+GivesValue view (Ok x) judged = judged ≡ Ok (view x)
+GivesValue view (Err e) judged = Fails e judged

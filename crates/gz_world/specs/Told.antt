@@ -1,4 +1,4 @@
--- A run over bytes that are told.
+-- What bytes say that are told.
 use Rattle.std.specs.Prelude.{◌≡◌, ℕ, List, Option, Some, None, Result, Ok, Err, ⊤}
 use Rattle.std.specs.Io.KnownBytes.{IsAtEnd}
 use Rattle.gz_model.specs.Lines.{lines_of}
@@ -8,24 +8,23 @@ use Rattle.gz_scenario.specs.declared.error.ScenarioError.{ScenarioError}
 use Rattle.gz_scenario.specs.declared.error.ScenarioError.TheVariants.{Limit}
 use Rattle.gz_world.specs.declared.replays.ReplayError.{ReplayError}
 use Rattle.gz_world.specs.declared.replays.ReplayError.TheVariants.{Refused, Fault, NoMemory}
-use Rattle.gz_world.specs.Worlds.{World}
-use Rattle.gz_world.specs.Run.{run, outcome_of}
+use Rattle.gz_world.specs.Run.{Scenario, read_on, outcome_of}
 
 -- the outcome of the bytes, where they are told
-abbrev pub HasOutcome : Option (List ℕ) → Result (Option World) ScenarioError → Type 0
+abbrev pub HasOutcome : Option (List ℕ) → Result (Option Scenario) ScenarioError → Type 0
 HasOutcome None outcome = ⊤
 HasOutcome (Some bytes) outcome = outcome_of bytes ≡ outcome
 
--- the lines ahead, from the second one on, make this of a world, where they are told
-abbrev pub RunsTo : Option (List ℕ) → ℕ → World → Result World ScenarioError → Type 0
-RunsTo None before w outcome = ⊤
-RunsTo (Some ahead) before w outcome = run (lines_of ahead) 2 before w ≡ outcome
+-- the lines ahead, from the second one on, make this of a scenario, where they are told
+abbrev pub ReadsOn : Option (List ℕ) → ℕ → Scenario → Result Scenario ScenarioError → Type 0
+ReadsOn None before s outcome = ⊤
+ReadsOn (Some ahead) before s outcome = read_on (lines_of ahead) 2 before s ≡ outcome
 
--- the run of all that was ahead goes on from here
-abbrev pub GoesOn : Option (List ℕ) → Option (List ℕ) → ℕ → World → ℕ → ℕ → World → Type 0
-GoesOn None now before start number bytes w = ⊤
-GoesOn (Some all) None before start number bytes w = ⊥
-GoesOn (Some all) (Some now) before start number bytes w = run (lines_of all) 2 before start ≡ run (lines_of now) number bytes w
+-- what all that was ahead says goes on from here
+abbrev pub GoesOn : Option (List ℕ) → Option (List ℕ) → ℕ → Scenario → ℕ → ℕ → Scenario → Type 0
+GoesOn None now before start number bytes s = ⊤
+GoesOn (Some all) None before start number bytes s = ⊥
+GoesOn (Some all) (Some now) before start number bytes s = read_on (lines_of all) 2 before start ≡ read_on (lines_of now) number bytes s
 
 -- what taking a line may refuse: one that is longer than a line may be
 abbrev pub IsLong : ScenarioError → ℕ → Option (List ℕ) → Type 0

@@ -1,6 +1,6 @@
--- A world: what has happened, and what came of it: the specifications, the key space with those who joined, the clients,
--- what was told of the events, and the journals and shards. And what an event makes of it.
-use Rattle.std.specs.Prelude.{◌≡◌, ℕ, ◌||◌, List, [], ◌∷◌, ◌++◌, length, Option, Some, None, Result, Ok, Err, Bool, true, false, if◌then◌else◌}
+-- A world: what has happened, and what came of it: the specifications, the key space with those who joined, where the
+-- journals are placed, the clients, what was told of the events, and the journals and shards. And what an event makes of it.
+use Rattle.std.specs.Prelude.{◌≡◌, ℕ, ◌||◌, List, [], ◌∷◌, ◌++◌, length, Option, Some, None, Result, Ok, Err, Bool, true, false, if◌then◌else◌, ⊤}
 use Rattle.std.specs.List.{list_all, list_any}
 use Rattle.gz_spec.specs.Reserved.{is_reserved}
 use Rattle.gz_links.specs.Links.{framing_at}
@@ -8,8 +8,12 @@ use Rattle.gz_links.specs.Joins.{join_of}
 use Rattle.gz_spec.specs.Records.{Specs}
 use Rattle.gz_links.specs.declared.error.SpecError.{SpecError}
 use Rattle.gz_keyspace.specs.declared.formats.Joined.{Joined}
-use Rattle.gz_keyspace.specs.Keys.{same_key}
-use Rattle.gz_registry.specs.Registered.{Registered, was_member, registry_start, put_answer, after_put, join_answer, after_join, expire_answer, after_expiry}
+use Rattle.gz_keyspace.specs.Keys.{same_key, keys_after}
+use Rattle.gz_registry.specs.Registered.{Registered, was_member, registry_start, put_answer, after_put, join_answer, after_join, expire_answer, after_expiry, after_try, IsOfNoMember}
+use Rattle.gz_converge.specs.declared.answer.Converged.{Converged}
+use Rattle.gz_converge.specs.declared.txn.Txn.{Txn}
+use Rattle.gz_converge.specs.Views.{View, view_of}
+use Rattle.gz_converge.specs.Converged.{Pairs, Converges}
 use Rattle.gz_registry.specs.declared.error.RegistryError.{RegistryError}
 use Rattle.gz_registry.specs.declared.error.RegistryError.TheVariants as registry
 use Rattle.gz_scenario.specs.Lawful.{is_start, is_event}
@@ -18,7 +22,7 @@ use Rattle.gz_scenario.specs.declared.event.MemberKind.{MemberKind}
 use Rattle.gz_scenario.specs.declared.event.MemberKind.TheVariants.{Broker, Consumer}
 use Rattle.gz_scenario.specs.declared.event.Join.{Join}
 use Rattle.gz_scenario.specs.declared.event.Event.{Event}
-use Rattle.gz_scenario.specs.declared.event.Event.TheVariants.{Specs as Begins, Publish, Settle, Apply, Join as Joins, Expire}
+use Rattle.gz_scenario.specs.declared.event.Event.TheVariants.{Specs as Begins, Publish, Settle, Converge, Apply, Join as Joins, Expire}
 use Rattle.gz_client.specs.Answers.{refusal_of, answer_of, stands}
 use Rattle.gz_client.specs.Requests.{request_of}
 use Rattle.gz_client.specs.declared.answer.Answer.{Answer}
@@ -34,20 +38,28 @@ use Rattle.gz_world.specs.declared.reply.Applied.{Applied}
 use Rattle.gz_world.specs.declared.reply.Applied.TheVariants as applied
 use Rattle.gz_world.specs.Starts.{cluster_start, cluster_with}
 
--- It began with specifications, and these events happened then, each with its line. What came of that: the specifications
--- have the journals and shards of now, and the members of the start. The clients are those that were answered.
+-- A step of a run: the line of its event, and what the converge answered with which the event begins, where it begins with
+-- one. Where things are placed is a choice of the allocator, so a step says what was chosen.
+pub record Step : Type 0 where
+  pub line : ℕ
+  pub answer : Option Converged
+
+-- It began with specifications, and these events happened then, each in its step. What came of that: the specifications
+-- have the journals and shards of now, and the members of the start; the goal is where the last converge placed the
+-- journals. The clients are those that were answered.
 pub record World : Type 0 where
   pub begun : Specs
-  pub events : List (ℕ × Event)
+  pub events : List (Step × Event)
   pub specs : Specs
   pub registry : Registered
+  pub goal : Pairs
   pub clients : List (List ℕ)
   pub told : List Told
   pub cluster : plain.World
 
 -- what specifications start: nothing has happened yet, and nothing was told
 abbrev pub world_start : Specs → World
-world_start specs = record { begun = specs; events = []; specs = specs; registry = registry_start specs; clients = []; told = []; cluster = cluster_start specs }
+world_start specs = record { begun = specs; events = []; specs = specs; registry = registry_start specs; goal = []; clients = []; told = []; cluster = cluster_start specs }
 
 -- ---- clients
 
@@ -164,42 +176,95 @@ abbrev pub with_registry : ℕ → World → Result Registered Reason → World
 with_registry line w (Ok registry) = record w { registry = registry }
 with_registry line w (Err reason) = refused line reason w
 
+-- ---- a converge
+
+-- what the key space says
+abbrev pub keys_say : World → View
+keys_say w = view_of (keys_after w.registry.keys.changes)
+
+-- the key space after these transactions, one after another, each where it can be made
+abbrev pub after_tries : List Txn → Registered → Registered
+after_tries [] r = r
+after_tries (t ∷ ts) r = after_tries ts (after_try t.compare t.write r)
+
+-- no transaction writes a member's key
+abbrev pub AreOfNoMember : List Txn → Type 0
+AreOfNoMember [] = ⊤
+AreOfNoMember (t ∷ ts) = IsOfNoMember t.write × AreOfNoMember ts
+
+-- the transactions of the answer are made, and its placement of the journals is the next goal
+abbrev pub converged : Converged → World → World
+converged answer w = record w { registry = after_tries answer.txns w.registry; goal = answer.goal }
+
+-- so it is where there is an answer
+abbrev pub converged_if : Option Converged → World → World
+converged_if None w = w
+converged_if (Some answer) w = converged answer w
+
+-- there is an answer, and it is one of a converge of what the key space says
+abbrev pub IsConverge : Option Converged → World → Type 0
+IsConverge None w = ⊥
+IsConverge (Some answer) w = Converges (keys_say w) w.goal answer
+
+-- An event that begins with a converge has an answer, and no other has one.
+abbrev pub IsAnswered : Option Converged → Event → World → Type 0
+IsAnswered answer (Begins specs) w = answer ≡ None
+IsAnswered answer (Publish p) w = answer ≡ None
+IsAnswered answer Settle w = IsConverge answer w
+IsAnswered answer Converge w = IsConverge answer w
+IsAnswered answer (Apply more) w = answer ≡ None
+IsAnswered answer (Joins j) w = answer ≡ None
+IsAnswered answer (Expire name) w = answer ≡ None
+
 -- ---- an event
 
 -- Everything that is due happens.
 abbrev pub settled : World → World
 settled w = record w { cluster = plain.settled w.cluster }
 
--- What comes of the event of a line. Specifications come on the first line alone; on another one they would change
--- nothing.
-abbrev pub done : ℕ → Event → World → World
-done line (Begins specs) w = w
-done line (Publish p) w = published line p w
-done line Settle w = settled w
-done line (Apply more) w = with_specs line more w (judged_apply w more)
-done line (Joins j) w = with_registry line w (judged_join w j)
-done line (Expire name) w = with_registry line w (judged_expire w name)
+-- What comes of the event of a line, with this answer of its converge. A settle begins with a converge. Specifications come
+-- on the first line alone; on another one they would change nothing.
+abbrev pub done : ℕ → Option Converged → Event → World → World
+done line answer (Begins specs) w = w
+done line answer (Publish p) w = published line p w
+done line answer Settle w = settled (converged_if answer w)
+done line answer Converge w = converged_if answer w
+done line answer (Apply more) w = with_specs line more w (judged_apply w more)
+done line answer (Joins j) w = with_registry line w (judged_join w j)
+done line answer (Expire name) w = with_registry line w (judged_expire w name)
 
--- what the event of a line makes of the world: it has happened
-abbrev pub after : ℕ → Event → World → World
-after line e w = record (done line e w) { events = w.events ++ (line, e) ∷ [] }
+-- what the event of a step makes of the world: it has happened
+abbrev pub after : Step → Event → World → World
+after step e w = record (done step.line step.answer e w) { events = w.events ++ (step, e) ∷ [] }
 
--- what events make of it, each with its line, one after another
-abbrev pub after_all : List (ℕ × Event) → World → World
+-- what events make of it, each in its step, one after another
+abbrev pub after_all : List (Step × Event) → World → World
 after_all [] w = w
 after_all (h ∷ hs) w = after_all hs (after h.0 h.1 w)
+
+-- A world that the event of this line may make of another one: what it makes with some answer of a converge.
+pub record MayFollow (line : ℕ) (e : Event) (w v : World) : Type 0 where
+  pub answer : Option Converged
+  pub answered : IsAnswered answer e w
+  pub made : v ≡ after (record { line = line; answer = answer }) e w
 
 -- ---- a run
 
 -- each of these is an event that reading accepts
-abbrev pub are_events : List (ℕ × Event) → Bool
+abbrev pub are_events : List (Step × Event) → Bool
 are_events hs = list_all (λ h. is_event h.1) hs
 
--- A world of a run is what its own events made of the specifications that it began with, and all of these are such as
--- reading accepts.
+-- each answer is one of a converge of what the key space said before its event
+abbrev pub AreAnswered : List (Step × Event) → World → Type 0
+AreAnswered [] w = ⊤
+AreAnswered (h ∷ hs) w = IsAnswered h.0.answer h.1 w × AreAnswered hs (after h.0 h.1 w)
+
+-- A world of a run is what its own events made of the specifications that it began with, each with an answer that a
+-- converge may give, and all of these are such as reading accepts.
 pub record IsRun (w : World) : Type 0 where
   pub start : is_start w.begun ≡ true
   pub lawful : are_events w.events ≡ true
+  pub answered : AreAnswered w.events (world_start w.begun)
   pub reached : w ≡ after_all w.events (world_start w.begun)
 
 -- ---- what became of an event
@@ -212,11 +277,12 @@ abbrev pub applied_unless : Option Reason → Applied
 applied_unless None = applied.Done
 applied_unless (Some reason) = applied.Refused reason
 
--- whether the event of a line was done or refused
+-- Whether the event of a line was done or refused. A converge is done, also where a transaction of it can't be made.
 abbrev pub applied_of : ℕ → Event → World → Applied
 applied_of line (Begins specs) w = applied.Done
 applied_of line (Publish p) w = applied_unless (reason_of (answer_to (request_of line p) p w))
 applied_of line Settle w = applied.Done
+applied_of line Converge w = applied.Done
 applied_of line (Apply more) w = applied_if (judged_apply w more)
 applied_of line (Joins j) w = applied_if (judged_join w j)
 applied_of line (Expire name) w = applied_if (judged_expire w name)

@@ -8,16 +8,18 @@
 //! ```
 #![tactic(auto)]
 
+mod converge;
 mod judge;
 mod laws;
 mod replays;
 mod reply;
 mod report;
 mod start;
+mod step;
 mod world;
 
 pub use laws::{
-    a_settle_ends_every_run, a_world_is_the_run_of_its_events, every_run_is_exactly_once,
+    a_scenario_is_what_its_lines_say, a_settle_ends_every_run, every_run_is_exactly_once,
     what_a_report_tells_is_so,
 };
 pub use replays::{ReplayError, refusal_line, replay};

@@ -1,14 +1,14 @@
 //! Replays of the lines of a source.
-ghost use Rattle.std.specs.Prelude.{◌≡◌, ◌≢◌, ◌≤◌, ◌+◌, ◌<◌, length, Ok, Err, Some, IfOk, OnOk, IsErr, IsTrue};
+ghost use Rattle.std.specs.Prelude.{◌≡◌, ◌≢◌, ◌≤◌, ◌+◌, ◌<◌, length, Ok, Err, Some, IfOk, OnOk, IsErr, IsTrue, option_map};
 ghost use Rattle.std.specs.Io.KnownBytes.{IsAtEnd};
 ghost use Rattle.gz_model.specs.Faults.{HasRisen};
 ghost use Rattle.gz_model.specs.Told.{ahead};
 ghost use Rattle.gz_scenario.specs.Events.{event_of};
 ghost use Rattle.gz_scenario.specs.Lawful.{is_event};
 ghost use Rattle.gz_world.specs.Worlds.{IsRun};
-ghost use Rattle.gz_world.specs.Run.{judged, judged_first, started, refusal_line as line_of};
+ghost use Rattle.gz_world.specs.Run.{judged, judged_first, started, scenario_of, IsRunIf, refusal_line as line_of};
 ghost use Rattle.gz_world.specs.Replays.{refused_or, Gives, GivesValue};
-ghost use Rattle.gz_world.specs.Told.{HasOutcome, RunsTo, TakesNext};
+ghost use Rattle.gz_world.specs.Told.{HasOutcome, ReadsOn, TakesNext};
 
 use crate::world::World;
 use gz_base::{LineError, LineReader, Source};
@@ -75,7 +75,7 @@ fn refused_or(error: ScenarioError) -> ReplayError
 /// The event that a line says.
 #[tactic(auto, using(crate::proofs::Lines::read_gives))]
 fn read_line(alloc: Global, number: u64, line: &[u8]) -> Result<Event, ReplayError>
-    ensures gives { GivesValue result (event_of number line.now) }
+    ensures gives { GivesValue (λ event. event) result (event_of number line.now) }
     ensures lawful { IfOk result (λ event. IsTrue (is_event event)) }
 {
     match read_event(alloc, number, line) {
@@ -86,7 +86,7 @@ fn read_line(alloc: Global, number: u64, line: &[u8]) -> Result<Event, ReplayErr
 
 /// The world that the first line starts.
 fn begin(alloc: Global, line: &[u8]) -> Result<World, ReplayError>
-    ensures gives { GivesValue result (judged_first line.now) }
+    ensures gives { GivesValue scenario_of result (judged_first line.now) }
     ensures run { IfOk result (λ world. IsRun world) }
 {
     match read_line(alloc, 1, line)? {
@@ -94,8 +94,12 @@ fn begin(alloc: Global, line: &[u8]) -> Result<World, ReplayError>
             let world = World::start(alloc, specs)?;
             Ok(world)
         }
-        Event::Publish(_) | Event::Settle | Event::Apply(_) | Event::Join(_) | Event::Expire(_) =>
-            Err(ReplayError::Refused(ScenarioError::Unknown { line: 1 })),
+        Event::Publish(_)
+        | Event::Settle
+        | Event::Converge
+        | Event::Apply(_)
+        | Event::Join(_)
+        | Event::Expire(_) => Err(ReplayError::Refused(ScenarioError::Unknown { line: 1 })),
     }
 }
 
@@ -110,7 +114,8 @@ fn advance(
 ) -> Result<(), ReplayError>
     requires before { before ≤ 134217728 }
     requires run { IsRun world.old }
-    ensures gives { Gives world.new result (judged number before line.now world.old) }
+    ensures gives { Gives (scenario_of world.new) result
+        (judged number before line.now (scenario_of world.old)) }
     ensures run { OnOk result (IsRun world.new) }
     ensures within { OnOk result ((number ≤ 65536) × (before + length line.now ≤ 134217728)) }
 {
@@ -154,10 +159,12 @@ fn go_on<S: Source>(
     requires first { first ≤ 134217728 }
     requires run { IsRun world.old }
     ensures done { OnOk result
-        (RunsTo (ahead reader.old (S.left input.old)) first world.old (Ok world.new)) }
+        (ReadsOn (ahead reader.old (S.left input.old)) first (scenario_of world.old)
+        (Ok (scenario_of world.new))) }
+    ensures run { OnOk result (IsRun world.new) }
     ensures end { OnOk result (IsAtEnd (S.left input.new)) }
     ensures refused { (refusal : ScenarioError) → result ≡ Err (ReplayError.Refused refusal) →
-        RunsTo (ahead reader.old (S.left input.old)) first world.old (Err refusal) }
+        ReadsOn (ahead reader.old (S.left input.old)) first (scenario_of world.old) (Err refusal) }
     ensures faults_stay { S.faults input.old ≤ S.faults input.new }
     ensures fault { result ≡ Err ReplayError.Fault →
         HasRisen (S.faults input.old) (S.faults input.new) }
@@ -178,7 +185,9 @@ fn go_on<S: Source>(
 /// Replays an input: reads a line, judges it, applies its event, and only then reads the next one. The
 /// first line starts the world; an empty input starts none.
 pub fn replay<S: Source>(alloc: Global, input: &mut S) -> Result<Option<World>, ReplayError>
-    ensures done { IfOk result (λ world. HasOutcome (S.left input.old) (Ok world)) }
+    ensures done { IfOk result
+        (λ world. HasOutcome (S.left input.old) (Ok (option_map scenario_of world))) }
+    ensures run { IfOk result (λ world. IsRunIf world) }
     ensures end { OnOk result (IsAtEnd (S.left input.new)) }
     ensures refused { (refusal : ScenarioError) → result ≡ Err (ReplayError.Refused refusal) →
         HasOutcome (S.left input.old) (Err refusal) }

@@ -1,5 +1,6 @@
 //! The world.
-ghost use Rattle.std.specs.Prelude.{◌≡◌, Ok, IfOk, OnOk, IsTrue};
+ghost use Rattle.std.specs.Prelude.{◌≡◌, Ok, None, IfOk, OnOk, IsTrue, option_map};
+ghost use Rattle.gz_converge.specs.Converged.{Converges};
 ghost use Rattle.gz_links.specs.Joins.{join_of};
 ghost use Rattle.gz_scenario.specs.Lawful.{is_start, is_publish, is_apply, is_joiner, is_event};
 ghost use Rattle.gz_client.specs.Requests.{request_of};
@@ -7,13 +8,18 @@ ghost use Rattle.gz_journal.specs.JournalList.{plain};
 ghost use Rattle.gz_registry.specs.Registered.{put_answer};
 ghost use Rattle.gz_world.specs.declared.reply.Applied.TheVariants as applied;
 ghost use Rattle.gz_world.specs.Starts.{IsSpecified};
-ghost use Rattle.gz_world.specs.Worlds.{world_start, refused, refusal_to, answer_to, with_landed, reason_of, replied, told_of, published, registered, judged_apply, with_specs, is_consumer, judged_join, judged_expire, with_registry, settled, done, after, IsRun, applied_if, applied_unless, applied_of};
+ghost use Rattle.gz_world.specs.Worlds.{world_start, refused, refusal_to, answer_to, with_landed, reason_of, replied, told_of, published, registered, judged_apply, with_specs, is_consumer, judged_join, judged_expire, with_registry, keys_say, converged, IsConverge, IsAnswered, settled, done, MayFollow, IsRun, applied_if, applied_unless, applied_of};
+ghost use Rattle.gz_world.specs.Run.{with_event, scenario_of};
 ghost use Rattle.gz_world.specs.Report.{report_of};
 
+use crate::converge::try_all;
 use crate::judge::{is_taken, reason_of};
 use crate::reply::{Applied, Reason, Told};
+use crate::step::Step;
 use crate::{report, start};
+use gz_alloc::Placement;
 use gz_client::{Answer, refusal, request_of};
+use gz_converge::{Converged, KeyView, converge};
 use gz_history::History;
 use gz_journal::Request;
 use gz_keyspace::Joined;
@@ -28,15 +34,17 @@ use std::alloc::Global;
 use std::marker::Model;
 use std::snapshot::Snapshot;
 
-/// A cluster of plain journals: its specifications, its key space with those who joined, the clients that were answered,
-/// what was told so far, and its journals and shards. Contracts see beside that the specifications that it began with and
-/// all events, each with its line; no memory is taken for them. After a call that finds no memory it isn't used again.
+/// A cluster of plain journals: its specifications, its key space with those who joined, where the last converge placed the
+/// journals, the clients that were answered, what was told so far, and its journals and shards. Contracts see beside that
+/// the specifications that it began with and all events, each with its line and with what its converge answered; no memory
+/// is taken for them. After a call that finds no memory it isn't used again.
 #[derive(Drop)]
 pub struct World {
     begun: Snapshot<Specs>,
-    events: History<u64, Event>,
+    events: History<Step, Event>,
     specs: Specs,
     registry: Registry,
+    goal: Placement,
     clients: IndexSet<Name>,
     told: Vec<Told>,
     cluster: Cluster,
@@ -47,7 +55,7 @@ impl Model for World {
 
     ghost Value = { Seen };
 
-    ghost view = { λ a. record { begun = a.begun.value; events = a.events.items; specs = a.specs; registry = a.registry; clients = a.clients.keys; told = a.told.items; cluster = a.cluster } };
+    ghost view = { λ a. record { begun = a.begun.value; events = a.events.items; specs = a.specs; registry = a.registry; goal = a.goal; clients = a.clients.keys; told = a.told.items; cluster = a.cluster } };
 }
 
 /// Whether the member is a consumer.
@@ -75,6 +83,7 @@ impl World {
             events: History::new(),
             specs,
             registry,
+            goal: Placement::none(alloc),
             clients: IndexSet::new(alloc),
             told: Vec::new(alloc),
             cluster,
@@ -256,41 +265,97 @@ impl World {
         }
     }
 
-    /// Does what the event of a line says.
-    fn take(&mut self, alloc: Global, line: u64, event: &Event) -> Result<Applied, NoMemory>
+    /// Converges the key space: routes and lists of consumers move towards where journals and shards are placed.
+    #[tactic(auto, using(crate::proofs::Tries::answer_moves_no_member))]
+    fn converge(&mut self, alloc: Global) -> Result<Snapshot<Converged>, NoMemory>
+        ensures answer { IfOk result
+            (λ answer. Converges (keys_say self.old) self.old.goal answer.value) }
+        ensures after { IfOk result (λ answer. self.new ≡ converged answer.value self.old) }
+    {
+        let view = KeyView::of(alloc, self.registry.keys())?;
+        let answer = converge(alloc, &view, &self.goal)?;
+        let seen = Snapshot::of(&answer);
+        let Converged { txns, goal, .. } = answer;
+        try_all(&mut self.registry, txns.as_slice())?;
+        self.goal = goal;
+        Ok(seen)
+    }
+
+    /// Converges the key space, and then lets everything happen that is due.
+    fn settle(&mut self, alloc: Global) -> Result<Snapshot<Converged>, NoMemory>
+        ensures answer { IfOk result
+            (λ answer. Converges (keys_say self.old) self.old.goal answer.value) }
+        ensures after { IfOk result
+            (λ answer. self.new ≡ settled (converged answer.value self.old)) }
+    {
+        let answer = self.converge(alloc)?;
+        self.cluster.settle(alloc)?;
+        Ok(answer)
+    }
+
+    /// Does what the event of a line says, and what its converge answered, where it begins with one.
+    fn take(
+        &mut self,
+        alloc: Global,
+        line: u64,
+        event: &Event,
+    ) -> Result<(Applied, Option<Snapshot<Converged>>), NoMemory>
         requires lawful { IsTrue (is_event event.now) }
         requires specified { IsSpecified self.old.specs self.old.cluster }
-        ensures applied { IfOk result (λ applied. applied ≡ applied_of line event.now self.old) }
-        ensures done { OnOk result (self.new ≡ done line event.now self.old) }
+        ensures applied { IfOk result (λ taken. taken.0 ≡ applied_of line event.now self.old) }
+        ensures answered { IfOk result
+            (λ taken. IsAnswered (option_map (λ s. s.value) taken.1) event.now self.old) }
+        ensures done { IfOk result
+            (λ taken. self.new
+            ≡ done line (option_map (λ s. s.value) taken.1) event.now self.old) }
     {
         match event {
-            Event::Specs(_) => Ok(Applied::Done),
-            Event::Publish(publish) => self.publish(alloc, line, publish),
-            Event::Settle => {
-                self.cluster.settle(alloc)?;
-                Ok(Applied::Done)
+            Event::Specs(_) => Ok((Applied::Done, None)),
+            Event::Publish(publish) => {
+                let applied = self.publish(alloc, line, publish)?;
+                Ok((applied, None))
             }
-            Event::Apply(more) => self.add_specs(alloc, line, more),
-            Event::Join(join) => self.join(line, join),
-            Event::Expire(member) => self.expire(line, member),
+            Event::Settle => {
+                let answer = self.settle(alloc)?;
+                Ok((Applied::Done, Some(answer)))
+            }
+            Event::Converge => {
+                let answer = self.converge(alloc)?;
+                Ok((Applied::Done, Some(answer)))
+            }
+            Event::Apply(more) => {
+                let applied = self.add_specs(alloc, line, more)?;
+                Ok((applied, None))
+            }
+            Event::Join(join) => {
+                let applied = self.join(line, join)?;
+                Ok((applied, None))
+            }
+            Event::Expire(member) => {
+                let applied = self.expire(line, member)?;
+                Ok((applied, None))
+            }
         }
     }
 
     /// Does what the event of a line says, which has happened then. A publish is refused or answered, and lands at the end
-    /// of its journal where the answer says so; a settle lets everything happen that is due. An apply adds journals and
-    /// shards, or replaces those of its names, a member joins, and a member's lease ends: each of these tells
+    /// of its journal where the answer says so; a converge moves routes and lists of consumers towards where journals and
+    /// shards are placed; a settle begins with a converge, and lets everything happen that is due. An apply adds journals
+    /// and shards, or replaces those of its names, a member joins, and a member's lease ends: each of these tells
     /// nothing, or is refused, which changes nothing else. Specifications change nothing: they start a world. After
     /// NoMemory the world isn't used again.
-    #[tactic(auto, using(crate::proofs::Happened::run_specified, crate::proofs::Happened::happened, crate::proofs::Happened::run_after))]
     pub fn apply(&mut self, alloc: Global, line: u64, event: &Event) -> Result<Applied, NoMemory>
         requires lawful { IsTrue (is_event event.now) }
         requires run { IsRun self.old }
         ensures applied { IfOk result (λ applied. applied ≡ applied_of line event.now self.old) }
-        ensures after { OnOk result (self.new ≡ after line event.now self.old) }
+        ensures follows { OnOk result (MayFollow line event.now self.old self.new) }
+        ensures scenario { OnOk result
+            (scenario_of self.new ≡ with_event line event.now (scenario_of self.old)) }
         ensures run { OnOk result (IsRun self.new) }
     {
-        let applied = self.take(alloc, line, event)?;
-        self.events = self.events.and(&line, event);
+        let (applied, answer) = self.take(alloc, line, event)?;
+        let step = Step::of(line, answer);
+        self.events = self.events.and(&step, event);
         Ok(applied)
     }
 

@@ -1,8 +1,7 @@
-use Rattle.std.proofs.Common.{◌≡◌, List, [], true, false, map, filter, ap, subst, ◌∙◌}
-use Rattle.gz_alloc.specs.Names.{Asked}
+use Rattle.std.proofs.Common.{◌≡◌, List, false, map, ap, ◌∙◌}
 use Rattle.gz_converge.specs.declared.view.JournalView.{JournalView}
 use Rattle.gz_converge.specs.declared.view.MemberView.{MemberView}
-use Rattle.gz_converge.specs.Converged.{Pairs, IsPlaced, holder, holders, journal_item, is_enabled, enabled, journals_asked, routes_now}
+use Rattle.gz_converge.specs.Converged.{holder, holders, journal_item, journals_asked, routes_now}
 use Rattle.gz_converge.proofs.Placing.{asked_is, placed_as, made_problem}
 use Rattle.gz_converge.proofs.answer.place_journals.Goals as goal
 

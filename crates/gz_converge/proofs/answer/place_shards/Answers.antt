@@ -1,5 +1,4 @@
-use Rattle.std.proofs.Common.{◌≡◌, List, [], true, false, map, filter, ap, subst, ◌∙◌}
-use Rattle.gz_alloc.specs.Names.{Asked}
+use Rattle.std.proofs.Common.{◌≡◌, List, [], true, map, filter, ap, subst, ◌∙◌}
 use Rattle.gz_converge.specs.declared.view.ShardView.{ShardView}
 use Rattle.gz_converge.specs.declared.view.MemberView.{MemberView}
 use Rattle.gz_converge.specs.Converged.{Pairs, IsPlaced, holder, holders, shard_item, is_enabled, enabled, shards_asked, lists_now}

@@ -1,4 +1,4 @@
-use Rattle.std.proofs.Common.{◌≤◌, ◌≡◌, true, arith}
+use Rattle.std.proofs.Common.{arith}
 use Rattle.gz_fields.specs.Names.{is_id, is_journal_name}
 use Rattle.gz_fields.specs.Form.{is_between}
 use Rattle.gz_spec.specs.Reserved.{is_hint_prefix}

@@ -1,4 +1,3 @@
-use Rattle.std.proofs.Common.{rules}
 use Rattle.gz_converge.proofs.problem.push_list.Goals as goal
 
 pub returns : goal.returns

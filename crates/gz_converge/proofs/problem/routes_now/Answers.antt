@@ -1,9 +1,9 @@
-use Rattle.std.proofs.Common.{◌≡◌, ℕ, List, filter, true, false, ap, sym, subst, ◌∙◌}
+use Rattle.std.proofs.Common.{◌≡◌, ℕ, List, true, false, ap, sym, subst, ◌∙◌}
 use Rattle.std.specs.Prelude.{flat_map}
 use Rattle.gz_alloc.specs.Ascending.{ascending}
 use Rattle.gz_converge.specs.declared.view.JournalView.{JournalView}
 use Rattle.gz_converge.specs.declared.view.MemberView.{MemberView}
-use Rattle.gz_converge.specs.Converged.{Pairs, ids, holders, is_enabled, pairs_of, routes_now}
+use Rattle.gz_converge.specs.Converged.{Pairs, ids, holders, pairs_of, routes_now}
 use Rattle.gz_converge.proofs.Order.{routes_ascend}
 use Rattle.gz_converge.proofs.problem.routes_now.Goals as goal
 

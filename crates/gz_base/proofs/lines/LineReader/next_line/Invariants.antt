@@ -1,4 +1,4 @@
-use Rattle.std.proofs.Common.{◌≤◌, ◌+◌, ◌-◌, length}
+use Rattle.std.proofs.Common.{◌≤◌, ◌+◌, ◌-◌, max, length}
 use Rattle.std.specs.Io.KnownBytes.{Keeps}
 use Rattle.gz_model.specs.Lines.{IsSearched}
 use Rattle.gz_model.specs.Told.{ahead}
@@ -11,6 +11,8 @@ invariant-reads g l =
       same : Keeps (ahead l.fn.self (source.left l.fn.input)) (ahead l.self (source.left l.input));
       within : l.searched ≤ length l.self;
       searched : IsSearched l.searched l.self;
+      limited : l.searched ≤ l.limit;
+      one_block : length l.self ≤ max (length l.fn.self) (l.searched + 65536);
       faults_stay : source.faults l.fn.input ≤ source.faults l.input;
     }
 

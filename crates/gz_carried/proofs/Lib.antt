@@ -1,0 +1,12 @@
+pub mod KeyChanges
+pub mod Opens
+pub mod Moves
+pub mod Converges
+pub mod Handing
+pub mod Clusters
+pub mod Carried
+pub mod KeyEvents
+pub mod Asking
+pub mod Clients
+pub mod Messages
+pub mod Sentences

@@ -1,0 +1,14 @@
+pub mod Processes
+pub mod Views
+pub mod Asking
+pub mod Answers
+pub mod Playing
+pub mod TakingUp
+pub mod Transactions
+pub mod Reading
+pub mod Writing
+pub mod Rules
+pub mod Consumers
+pub mod Changing
+pub mod Step
+pub mod Laws
