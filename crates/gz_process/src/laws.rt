@@ -54,9 +54,9 @@ pub fn a_process_that_waits_sends_nothing()
         (rest : List Asked) → p.asked ≡ a ∷ rest → polls name m base now p ≡ quiet p }
 {}
 
-/// Each step of a process goes along an arrow of the picture of phases, or stays. So it publishes
-/// only what it has read, commits only what it has published, and acknowledges only a commit: its
-/// own, or the one that it has found in the log behind its handoff.
+/// Each step of a process goes along an arrow of the picture of phases, or stays. What it publishes
+/// before a commit are lines and stays the same until they are in; it commits what it has published
+/// for; and what it acknowledges behind its commit are that commit's intents.
 pub fn a_process_follows_its_phases()
     ensures polls { (name : List ℕ) (m : Mirrored) (base now : ℕ) (p : Process) →
         Leads p.phase (polls name m base now p).process.phase }

@@ -1,0 +1,5 @@
+mod Waiting
+mod Found
+mod Ruled
+mod Parts
+mod Ruling
